@@ -1,0 +1,11 @@
+pub mod Layout
+pub mod Objects
+pub mod Heap
+pub mod Cells
+pub mod Words
+pub mod Valid
+pub mod Simple
+pub mod Regions
+pub mod Histories
+pub mod Complete
+pub mod Text

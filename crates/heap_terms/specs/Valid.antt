@@ -1,0 +1,133 @@
+-- Which programs a script can be read as. All ranges and limits are this project's own.
+use Rattle.std.specs.Prelude.{◌≡◌, ℕ, ℤ, pos, negsuc, ◌<◌, ◌≤◌, ◌^◌, List, [], ◌∷◌, length, All, sum_by, count_by, Bool, true, false, IsTrue, codes}
+use Rattle.std.specs.Str.{bytes_eq}
+use Rattle.std.specs.List.{list_any}
+use Rattle.heap_terms.specs.declared.cells.Cell.{Cell}
+use Rattle.heap_terms.specs.declared.cells.Cell.TheVariants.{Stack, Exact, Shared}
+use Rattle.heap_terms.specs.declared.cells.Raw.{Raw}
+use Rattle.heap_terms.specs.declared.commands.Command.{Command}
+use Rattle.heap_terms.specs.declared.commands.Command.TheVariants.{Fix, MakeNil, Move, NewCons, NewVector, NewInstance, NewClosure, NewWords, NewWeak, NewTable, Get, Put, RawGet, RawPut, Same, Show, Addr, SetRaw, AddRaw, Pin, Unpin, WeakVal, TablePut, TableGet, TableRem, TableCount, Finalize, Cancel, RunFinalizers, Collect, Inhibit, Allow, ShowPage, Stat}
+use Rattle.heap_terms.specs.declared.programs.Program.{Program}
+
+-- the cells of each kind are 16
+abbrev pub IsCell : Cell → Type 0
+IsCell (Stack i) = i < 16
+IsCell (Exact i) = i < 16
+IsCell (Shared i) = i < 16
+
+-- a thread has 8 raw cells
+abbrev pub IsRaw : Raw → Type 0
+IsRaw r = r.0 < 8
+
+-- a fixnum is from -2^62 to 2^62 - 1
+abbrev pub IsFixnum : ℤ → Type 0
+IsFixnum (pos n) = n < 2 ^ 62
+IsFixnum (negsuc n) = n < 2 ^ 62
+
+-- the word with which a command's line begins
+abbrev pub name_of : Command → List ℕ
+name_of (Fix d n) = codes "fix"
+name_of (MakeNil d) = codes "nil"
+name_of (Move d c) = codes "move"
+name_of (NewCons d a b) = codes "cons"
+name_of (NewVector d n) = codes "vector"
+name_of (NewInstance d n) = codes "instance"
+name_of (NewClosure d n) = codes "closure"
+name_of (NewWords d n w) = codes "words"
+name_of (NewWeak d c) = codes "weak"
+name_of (NewTable d w b) = codes "table"
+name_of (Get d c i) = codes "get"
+name_of (Put c i a) = codes "put"
+name_of (RawGet r c i) = codes "rawget"
+name_of (RawPut c i r) = codes "rawput"
+name_of (Same a b) = codes "eq"
+name_of (Show c) = codes "show"
+name_of (Addr r c) = codes "addr"
+name_of (SetRaw r w) = codes "raw"
+name_of (AddRaw r k) = codes "add"
+name_of (Pin c) = codes "pin"
+name_of Unpin = codes "unpin"
+name_of (WeakVal d c) = codes "weakval"
+name_of (TablePut c k v) = codes "tput"
+name_of (TableGet d c k) = codes "tget"
+name_of (TableRem c k) = codes "trem"
+name_of (TableCount c) = codes "tcount"
+name_of (Finalize c id) = codes "finalize"
+name_of (Cancel c) = codes "cancel"
+name_of RunFinalizers = codes "runfin"
+name_of (Collect g) = codes "gc"
+name_of Inhibit = codes "nogc"
+name_of Allow = codes "gcok"
+name_of (ShowPage p) = codes "page"
+name_of (Stat g) = codes "stat"
+
+-- the words that this version reads; a line that begins with another word is refused
+abbrev pub built_words : List (List ℕ)
+built_words = codes "lispheap" ∷ codes "heap" ∷ codes "thread" ∷ codes "fix" ∷ codes "cons" ∷ codes "get"
+    ∷ codes "put" ∷ codes "show" ∷ codes "schedule" ∷ codes "end" ∷ []
+
+-- whether a word is among them
+abbrev pub is_built : List ℕ → Bool
+is_built word = list_any (bytes_eq word) built_words
+
+-- each field of a command is in its range
+abbrev pub IsInRange : Command → Type 0
+IsInRange (Fix d n) = IsCell d × IsFixnum n
+IsInRange (MakeNil d) = IsCell d
+IsInRange (Move d c) = IsCell d × IsCell c
+IsInRange (NewCons d a b) = IsCell d × IsCell a × IsCell b
+IsInRange (NewVector d n) = IsCell d × (n ≤ 65535)
+IsInRange (NewInstance d n) = IsCell d × (n ≤ 65535)
+IsInRange (NewClosure d n) = IsCell d × (n ≤ 65535)
+IsInRange (NewWords d n w) = IsCell d × (n ≤ 65535) × (w < 2 ^ 64)
+IsInRange (NewWeak d c) = IsCell d × IsCell c
+IsInRange (NewTable d w b) = IsCell d × (1 ≤ b) × (b ≤ 64)
+IsInRange (Get d c i) = IsCell d × IsCell c × (i ≤ 65535)
+IsInRange (Put c i a) = IsCell c × (i ≤ 65535) × IsCell a
+IsInRange (RawGet r c i) = IsRaw r × IsCell c × (i ≤ 65535)
+IsInRange (RawPut c i r) = IsCell c × (i ≤ 65535) × IsRaw r
+IsInRange (Same a b) = IsCell a × IsCell b
+IsInRange (Show c) = IsCell c
+IsInRange (Addr r c) = IsRaw r × IsCell c
+IsInRange (SetRaw r w) = IsRaw r × (w < 2 ^ 64)
+IsInRange (AddRaw r k) = IsRaw r
+IsInRange (Pin c) = IsCell c
+IsInRange Unpin = Unit {0}
+IsInRange (WeakVal d c) = IsCell d × IsCell c
+IsInRange (TablePut c k v) = IsCell c × IsCell k × IsCell v
+IsInRange (TableGet d c k) = IsCell d × IsCell c × IsCell k
+IsInRange (TableRem c k) = IsCell c × IsCell k
+IsInRange (TableCount c) = IsCell c
+IsInRange (Finalize c id) = IsCell c × (id < 2 ^ 32)
+IsInRange (Cancel c) = IsCell c
+IsInRange RunFinalizers = Unit {0}
+-- until generations are built the only collection is that of generation 0
+IsInRange (Collect g) = g ≡ 0
+IsInRange Inhibit = Unit {0}
+IsInRange Allow = Unit {0}
+IsInRange (ShowPage p) = p < 2 ^ 32
+IsInRange (Stat g) = g ≤ 6
+
+-- a command that a script can have: its word is built, and its fields are in range
+pub record IsCommand (c : Command) : Type 0 where
+  pub built : is_built (name_of c) ≡ true
+  pub in_range : IsInRange c
+
+-- whether a command is `gc`
+abbrev pub is_gc : Command → Bool
+is_gc (Collect g) = true
+is_gc _ = false
+
+-- A program that a script can be read as: one to eight threads, 1 to 1,024 pages, at most 20,000 commands and
+-- 64 `gc` among them, at most 1,000,000 turns. Until `auto` is built its number is 0.
+pub record IsValid (p : Program) : Type 0 where
+  pub pages_least : 1 ≤ p.pages
+  pub pages_most : p.pages ≤ 1024
+  pub auto : p.auto ≡ 0
+  pub threads_least : 1 ≤ length p.threads
+  pub threads_most : length p.threads ≤ 8
+  pub commands : All (All IsCommand) p.threads
+  pub commands_most : sum_by length p.threads ≤ 20000
+  pub gcs_most : sum_by (count_by is_gc) p.threads ≤ 64
+  pub schedule : All (λ t. t < length p.threads) p.schedule
+  pub schedule_most : length p.schedule ≤ 1000000
