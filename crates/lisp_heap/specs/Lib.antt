@@ -1,0 +1,4 @@
+pub mod View
+pub mod Parcels
+pub mod Agreement
+pub mod Events
