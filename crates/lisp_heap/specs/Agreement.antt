@@ -7,6 +7,10 @@ use Rattle.heap_terms.specs.declared.pages.Next.{Next}
 use Rattle.heap_terms.specs.declared.pages.Next.TheVariants as nexts
 use Rattle.heap_terms.specs.Heap.{NamedHeap, thread_at, entry_at, fill_of}
 use Rattle.heap_terms.specs.Layout.{page_words}
+use Rattle.heap_terms.specs.Histories.{command_at, wish_at, wished_size}
+use Rattle.heap_terms.specs.Regions.{IsRun, pages_needed}
+use Rattle.lisp_heap.specs.declared.world.Lent.{Lent}
+use Rattle.lisp_heap.specs.declared.world.Lent.TheVariants as lents
 use Rattle.lisp_heap.specs.Parcels.{ParcelView, RegionView, empty_parcel, place_of, HasRoom, HasBuilt, IsMaking}
 use Rattle.lisp_heap.specs.View.{View, heap_of}
 
@@ -56,3 +60,12 @@ CanBuild nexts.Done q = Unit {0}
 pub record AreFresh (parcels : List ParcelView) (threads : ℕ) : Type 0 where
   pub count : length parcels ≡ threads
   pub each : (t : ℕ) (d : ParcelView) → t < threads → slice_index_or parcels t d ≡ empty_parcel t
+
+-- the pages that thread t's next object needs stand free side by side
+abbrev pub HasRunFor : View → ℕ → Type 0
+HasRunFor w t = (first : ℕ) × IsRun (heap_of w).pages first (pages_needed (wished_size (wish_at (command_at w.program (heap_of w) t))))
+
+-- what `lend` answers, by whether there is such a run
+abbrev pub Lends : View → ℕ → Lent → Type 0
+Lends old t lents.Opened = HasRunFor old t
+Lends old t lents.Exhausted = ¬ HasRunFor old t
