@@ -1,0 +1,103 @@
+//! The space of words.
+
+ghost use Rattle.std.specs.Prelude.{◌≡◌, ◌+◌, ◌*◌, ◌<◌, ◌≤◌, ◌⊎◌, length, replicate, slice_index, slice_set, IfOk};
+ghost use Rattle.heap_terms.specs.Layout.{page_words};
+ghost use Rattle.word_space.specs.Space.{copied};
+
+use heap_terms::Memory;
+use std::alloc::Global;
+use std::marker::Model;
+
+/// How many words a page has.
+const PAGE_WORDS: u32 = 512;
+
+/// The words of 1 to 1,024 pages of 512 words each. Contracts see it as the list of its words.
+/// These numbers are this project's own.
+#[derive(Drop)]
+pub struct Space {
+    words: Vec<u64>,
+}
+
+impl Model for Space {
+    ghost use Rattle.std.specs.Prelude.{ℕ, List};
+    ghost use Rattle.word_space.specs.Space.{IsPaged};
+
+    ghost Value = { List ℕ };
+
+    ghost view = { λ s. s.words.items };
+
+    ghost invariant = { λ s. IsPaged s.words.items };
+}
+
+impl Space {
+    /// The space of 1 to 1,024 pages, with every word 0. It is refused only for want of memory.
+    pub fn new(alloc: Global, pages: u32) -> Result<Space, Memory>
+        requires least { 1 ≤ pages }
+        requires most { pages ≤ 1024 }
+        ensures { IfOk result (λ space. space ≡ replicate (page_words * pages) 0) }
+    {
+        let mut words = Vec::new(alloc);
+        match words.resize((PAGE_WORDS * pages) as usize, 0) {
+            Ok(()) => Ok(Space { words }),
+            Err(_) => Err(Memory),
+        }
+    }
+
+    /// How many pages of 512 words there are: from 1 to 1,024, and never another number.
+    pub fn pages(&self) -> u32
+        ensures whole { length self.now ≡ page_words * result }
+        ensures least { 1 ≤ result }
+        ensures most { result ≤ 1024 }
+    {
+        self.words.len() as u32 / PAGE_WORDS
+    }
+
+    /// The word at an index.
+    pub fn read(&self, index: u32) -> u64
+        requires { index < length self.now }
+        ensures { result ≡ slice_index self.now index }
+    {
+        self.words[index as usize]
+    }
+
+    /// Writes the word at an index. Every other word stays.
+    pub fn write(&mut self, index: u32, word: u64)
+        requires { index < length self.old }
+        ensures { self.new ≡ slice_set self.old index word }
+    {
+        self.words[index as usize] = word;
+    }
+
+    /// Copies the n words from `from` on over those from `to` on. The two ranges lie in the space
+    /// and do not overlap. Every word outside the second range stays.
+    pub fn copy(&mut self, from: u32, to: u32, n: u32)
+        requires from_within { from + n ≤ length self.old }
+        requires to_within { to + n ≤ length self.old }
+        requires apart { (from + n ≤ to) ⊎ (to + n ≤ from) }
+        ensures words { self.new ≡ copied self.old from to n }
+        ensures len { length self.new ≡ length self.old }
+    {
+        copy_words(
+            self.words.as_mut_slice(),
+            from as usize,
+            to as usize,
+            n as usize,
+        );
+    }
+}
+
+/// Copies within a list of words, between ranges that do not overlap.
+fn copy_words(words: &mut [u64], from: usize, to: usize, n: usize)
+    requires from_within { from + n ≤ length words.old }
+    requires to_within { to + n ≤ length words.old }
+    requires apart { (from + n ≤ to) ⊎ (to + n ≤ from) }
+    ensures { words.new ≡ copied words.old from to n }
+{
+    if from < to {
+        let (front, back) = words.split_at_mut(to);
+        back[..n].copy_from_slice(&front[from..from + n]);
+    } else {
+        let (front, back) = words.split_at_mut(from);
+        front[to..to + n].copy_from_slice(&back[..n]);
+    }
+}

@@ -1,0 +1,28 @@
+//! Each call once, with ample memory.
+
+use crate::Space;
+use std::test::Fail;
+
+/// Takes what another thread may own and what threads may share.
+fn crosses_threads<T: Send + Sync>(_value: &T) {}
+
+#[test]
+fn words_are_zero_then_written_then_copied(rt: HostRuntime) -> Result<(), Fail> {
+    let mut space = Space::new(rt.alloc(), 2)?;
+    assert_eq!(rt; space.pages(), 2);
+    assert_eq!(rt; space.read(1023), 0);
+    space.write(0, 7);
+    space.write(1, 8);
+    space.copy(0, 1022, 2);
+    space.copy(1023, 0, 1);
+    let found = [
+        space.read(0),
+        space.read(1),
+        space.read(1021),
+        space.read(1022),
+        space.read(1023),
+    ];
+    assert_eq!(rt; found, [8, 8, 0, 7, 8]);
+    crosses_threads(&space);
+    Ok(())
+}
