@@ -3,7 +3,9 @@
 //! that what the World keeps stands for the named heap which that history leaves.
 #![tactic(auto)]
 
+mod cells;
 mod parcels;
+mod states;
 mod world;
 
 pub use heap_terms::Next;
