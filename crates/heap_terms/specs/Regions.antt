@@ -68,10 +68,25 @@ is_small size = nat_le size page_words
 abbrev pub pages_needed : ℕ → ℕ
 pages_needed size = if is_small size then 1 else (size + 511) / page_words
 
--- whether an open page has room for that many words more
+-- whether a page has room for that many words more; a free page has none
+abbrev pub entry_has_room : Entry → ℕ → Bool
+entry_has_room entries.Free size = false
+entry_has_room (entries.Used ty g fill first pages) size = nat_le (fill + size) page_words
+
+-- whether a thread's open page of a type has room for that many words more
 abbrev pub page_has_room : List Entry → Option ℕ → ℕ → Bool
 page_has_room pages None size = false
-page_has_room pages (Some page) size = nat_le (fill_of (entry_at pages page) + size) page_words
+page_has_room pages (Some page) size = entry_has_room (entry_at pages page) size
+
+-- whether a page begins a run of just k pages
+abbrev pub entry_is_run : Entry → ℕ → Bool
+entry_is_run entries.Free k = false
+entry_is_run (entries.Used ty g fill first pages) k = pages == k
+
+-- whether a thread's open run was opened for a large object of that size
+abbrev pub run_has_room : List Entry → Option ℕ → ℕ → Bool
+run_has_room pages None size = false
+run_has_room pages (Some first) size = entry_is_run (entry_at pages first) (pages_needed size)
 
 -- Whether thread t has room for an object of a kind and a size: a small one in its open page of that type, a
 -- large one in its open run, which was opened for it.
@@ -79,7 +94,7 @@ abbrev pub has_room : NamedHeap → ℕ → Kind → ℕ → Bool
 has_room a t kind size =
     if is_small size
     then page_has_room a.pages (open_page (thread_at a t) (page_type_of kind)) size
-    else is_some (thread_at a t).open_run
+    else run_has_room a.pages (thread_at a t).open_run size
 
 -- a page is free
 abbrev pub is_free : Entry → Bool
@@ -105,7 +120,7 @@ abbrev pub with_run : List Entry → ℕ → ℕ → PageType → List Entry
 with_run pages first k ty = take first pages ++ replicate k (entries.Used ty 0 0 first k) ++ drop (first + k) pages
 
 -- the heap after thread t opened a run of k pages: one page is its open page of the type from now on, a longer
--- run waits for the one large object for which it was opened
+-- run (which a small object never needs) waits for the one large object for which it was opened
 unfoldable pub opened : NamedHeap → ℕ → PageType → ℕ → ℕ → NamedHeap
 opened a t ty first k =
     let th = thread_at a t in

@@ -24,6 +24,11 @@ abbrev pub IsFixnum : ℤ → Type 0
 IsFixnum (pos n) = n < 2 ^ 62
 IsFixnum (negsuc n) = n < 2 ^ 62
 
+-- a signed number of 64 bits
+abbrev pub IsSigned : ℤ → Type 0
+IsSigned (pos n) = n < 2 ^ 63
+IsSigned (negsuc n) = n < 2 ^ 63
+
 -- the word with which a command's line begins
 abbrev pub name_of : Command → List ℕ
 name_of (Fix d n) = codes "fix"
@@ -90,7 +95,7 @@ IsInRange (Same a b) = IsCell a × IsCell b
 IsInRange (Show c) = IsCell c
 IsInRange (Addr r c) = IsRaw r × IsCell c
 IsInRange (SetRaw r w) = IsRaw r × (w < 2 ^ 64)
-IsInRange (AddRaw r k) = IsRaw r
+IsInRange (AddRaw r k) = IsRaw r × IsSigned k
 IsInRange (Pin c) = IsCell c
 IsInRange Unpin = Unit {0}
 IsInRange (WeakVal d c) = IsCell d × IsCell c
@@ -101,8 +106,7 @@ IsInRange (TableCount c) = IsCell c
 IsInRange (Finalize c id) = IsCell c × (id < 2 ^ 32)
 IsInRange (Cancel c) = IsCell c
 IsInRange RunFinalizers = Unit {0}
--- until generations are built the only collection is that of generation 0
-IsInRange (Collect g) = g ≡ 0
+IsInRange (Collect g) = g ≤ 5
 IsInRange Inhibit = Unit {0}
 IsInRange Allow = Unit {0}
 IsInRange (ShowPage p) = p < 2 ^ 32
@@ -113,13 +117,19 @@ pub record IsCommand (c : Command) : Type 0 where
   pub built : is_built (name_of c) ≡ true
   pub in_range : IsInRange c
 
+-- until generations are built a `gc` names generation 0 alone
+abbrev pub NamesYoungest : Command → Type 0
+NamesYoungest (Collect g) = g ≡ 0
+NamesYoungest _ = Unit {0}
+
 -- whether a command is `gc`
 abbrev pub is_gc : Command → Bool
 is_gc (Collect g) = true
 is_gc _ = false
 
 -- A program that a script can be read as: one to eight threads, 1 to 1,024 pages, at most 20,000 commands and
--- 64 `gc` among them, at most 1,000,000 turns. Until `auto` is built its number is 0.
+-- 64 `gc` among them, at most 1,000,000 turns. Until `auto` and generations are built the number of `auto` and
+-- that of each `gc` is 0.
 pub record IsValid (p : Program) : Type 0 where
   pub pages_least : 1 ≤ p.pages
   pub pages_most : p.pages ≤ 1024
@@ -127,6 +137,7 @@ pub record IsValid (p : Program) : Type 0 where
   pub threads_least : 1 ≤ length p.threads
   pub threads_most : length p.threads ≤ 8
   pub commands : All (All IsCommand) p.threads
+  pub gcs : All (All NamesYoungest) p.threads
   pub commands_most : sum_by length p.threads ≤ 20000
   pub gcs_most : sum_by (count_by is_gc) p.threads ≤ 64
   pub schedule : All (λ t. t < length p.threads) p.schedule

@@ -1,5 +1,5 @@
 -- The words of values and objects, given where the objects lie.
-use Rattle.std.specs.Prelude.{ℕ, List, [], ◌∷◌, ◌++◌, map, length, replicate, flat_map, take, Option, Some, None, ◌+◌, ◌-◌, ◌*◌, pos}
+use Rattle.std.specs.Prelude.{ℕ, List, [], ◌∷◌, ◌++◌, map, length, replicate, flat_map, take, Option, Some, None, ◌+◌, ◌-◌, ◌*◌, ◌^◌, pos}
 use Rattle.heap_terms.specs.declared.cells.Value.{Value}
 use Rattle.heap_terms.specs.declared.cells.Value.TheVariants.{Fix, Nil, Unbound, Ref}
 use Rattle.heap_terms.specs.declared.kinds.Kind.{Kind}
@@ -8,9 +8,9 @@ use Rattle.heap_terms.specs.Layout.{nil_word, unbound_word, reference_word, fixn
 use Rattle.heap_terms.specs.Objects.{Object, Contents, ConsOf, VectorOf, InstanceOf, ClosureOf, WordsOf, WeakTo, TableOf, kind_of}
 use Rattle.heap_terms.specs.Heap.{object_at}
 
--- the word of a reference to an object; a name that is gone has no word, and 0 stands for that
+-- the word of a reference to an object; a name that is gone has no word, and a number that is no word stands for that
 abbrev pub word_of_object : Option Object → ℕ
-word_of_object None = 0
+word_of_object None = 2 ^ 64
 word_of_object (Some o) = reference_word o.place (kind_of o.contents)
 
 -- the word of a value
