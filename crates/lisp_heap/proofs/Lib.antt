@@ -1,2 +1,6 @@
 pub mod Threads
 pub mod CellLemmas
+pub mod ObjectLemmas
+pub mod WordLemmas
+pub mod PutLemmas
+pub mod CommitLemmas

@@ -6,3 +6,4 @@ pub mod CellsView
 pub mod State
 pub mod Standing
 pub mod Sound
+pub mod Outcome

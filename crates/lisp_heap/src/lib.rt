@@ -4,6 +4,7 @@
 #![tactic(auto)]
 
 mod cells;
+mod outcome;
 mod parcels;
 mod states;
 mod world;
