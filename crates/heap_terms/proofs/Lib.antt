@@ -5,3 +5,4 @@ pub mod Places
 pub mod Effects
 pub mod Living
 pub mod Staying
+pub mod Threading
