@@ -6,3 +6,5 @@ pub mod Effects
 pub mod Living
 pub mod Staying
 pub mod Threading
+pub mod Writing
+pub mod Opening
