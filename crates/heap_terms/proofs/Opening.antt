@@ -2,7 +2,7 @@
 use Rattle.std.proofs.Common.{◌≡◌, ◌≢◌, ℕ, zero, suc, ◌+◌, ◌-◌, ◌*◌, ◌<◌, ◌≤◌, List, [], ◌∷◌, ◌++◌, length, Option, Some, None, Bool, true, false, ◌⊎◌, inl, inr, refl, sym, ◌∙◌, subst, ap, arith, get_or, set, take, drop, replicate, min, eqb}
 use Rattle.std.proofs.lemmas.Bool.{cases_lt, cases_eq, cases_Bool, eq-eqb, ne_eqb}
 use Rattle.std.proofs.lemmas.List.{length-append, length-take, length-take-le, length-drop, length-replicate, get_or-take, get_or-drop, get_or-replicate, get_or_append_left, get_or-append_right, get_or_past}
-use Rattle.std.specs.Prelude.{IfSome, IsSome, if◌then◌else◌}
+use Rattle.std.specs.Prelude.{IfSome, IsSome, if◌then◌else◌, ◌==◌}
 use Rattle.heap_terms.specs.declared.kinds.PageType.{PageType}
 use Rattle.heap_terms.specs.declared.kinds.PageType.TheVariants as types
 use Rattle.heap_terms.specs.declared.pages.Entry.{Entry}
@@ -54,6 +54,10 @@ other_entry pages first k ty i inside (inr high) =
     ∙ get_or-drop (first + k) pages (i - (first + k)) Free
     ∙ ap (λ (j : ℕ). get_or pages j Free) there
 
+pub free_is : (e : Entry) → is_free e ≡ true → e ≡ Free
+free_is Free h = refl
+free_is (Used ty g fill first n) h = cc
+
 pub run_cases : (pages : List Entry) (first k : ℕ) (ty : PageType) (i : ℕ) → IsRun pages first k →
     (entry_at (with_run pages first k ty) i ≡ entry_at pages i)
     ⊎ ((first ≤ i) × (i < first + k) × (entry_at (with_run pages first k ty) i ≡ Used ty 0 0 first k) × (entry_at pages i ≡ Free))
@@ -64,10 +68,6 @@ run_cases pages first k ty i run = elim (cases_lt i first) [
         | inl high ↦ inr (low, high, run_entry pages first k ty i run.inside low high, free_is (entry_at pages i) (run.free i low high))
         ]
     ]
-  where
-    free_is : (e : Entry) → is_free e ≡ true → e ≡ Free
-    free_is Free h = refl
-    free_is (Used ty g fill first n) h = cc
 
 pub run_stays : (pages : List Entry) (first k : ℕ) (ty : PageType) → IsRun pages first k → PagesStay pages (with_run pages first k ty)
 run_stays pages first k ty run = record {
@@ -120,3 +120,177 @@ run-kept p a ty first k w run =
       owes_nothing = w.owes_nothing;
       pins_nothing = w.pins_nothing;
     }
+
+-- a thread with the cells of another is well-formed if its pages and its run are open
+pub with_cells_of : (objects : List (Option Object)) (pages : List Entry) (th new : Thread) → IsThread objects pages th → new.stack ≡ th.stack → new.exact ≡ th.exact →
+    new.raws ≡ th.raws → ((ty : PageType) (page : ℕ) → open_page new ty ≡ Some page → IsOpenPage ty page (entry_at pages page)) →
+    ((page : ℕ) → new.open_run ≡ Some page → IsOpenRun pages page) → IsThread objects pages new
+with_cells_of objects pages th new h stack exact raws are_open run = record {
+  stack_length = rw stack h.stack_length;
+  exact_length = rw exact h.exact_length;
+  raws_length = rw raws h.raws_length;
+  stack = rw stack h.stack;
+  exact = rw exact h.exact;
+  open_pages = λ ty. IfSome-from (λ (x : ℕ). IsOpenPage ty x (entry_at pages x)) (open_page new ty) (λ x e. are_open ty x e);
+  open_run = IfSome-from (IsOpenRun pages) new.open_run (λ x e. run x e);
+}
+
+-- what is open after a page was opened
+pub opened_page_cases : (th : Thread) (ty : PageType) (first : ℕ) (other : PageType) (page : ℕ) → open_page (with_open_page th ty first) other ≡ Some page →
+    (open_page th other ≡ Some page) ⊎ ((other ≡ ty) × (page ≡ first))
+opened_page_cases th types.Cons first types.Cons page e = inr (refl, cc)
+opened_page_cases th types.Cons first types.Boxed page e = inl e
+opened_page_cases th types.Cons first types.Unboxed page e = inl e
+opened_page_cases th types.Boxed first types.Cons page e = inl e
+opened_page_cases th types.Boxed first types.Boxed page e = inr (refl, cc)
+opened_page_cases th types.Boxed first types.Unboxed page e = inl e
+opened_page_cases th types.Unboxed first types.Cons page e = inl e
+opened_page_cases th types.Unboxed first types.Boxed page e = inl e
+opened_page_cases th types.Unboxed first types.Unboxed page e = inr (refl, cc)
+
+-- all else of the thread stays
+pub record HasSameCells (old new : Thread) : Type 0 where
+  pub done : new.done ≡ old.done
+  pub stack : new.stack ≡ old.stack
+  pub exact : new.exact ≡ old.exact
+  pub raws : new.raws ≡ old.raws
+  pub owed : new.owed ≡ old.owed
+  pub pins : new.pins ≡ old.pins
+  pub inhibits : new.inhibits ≡ old.inhibits
+  pub ended : new.ended ≡ old.ended
+
+pub with_open_page-cells : (th : Thread) (ty : PageType) (first : ℕ) → HasSameCells th (with_open_page th ty first)
+with_open_page-cells th types.Cons first = record { done = refl; stack = refl; exact = refl; raws = refl; owed = refl; pins = refl; inhibits = refl; ended = refl }
+with_open_page-cells th types.Boxed first = record { done = refl; stack = refl; exact = refl; raws = refl; owed = refl; pins = refl; inhibits = refl; ended = refl }
+with_open_page-cells th types.Unboxed first = record { done = refl; stack = refl; exact = refl; raws = refl; owed = refl; pins = refl; inhibits = refl; ended = refl }
+
+pub with_open_page-run : (th : Thread) (ty : PageType) (first : ℕ) → (with_open_page th ty first).open_run ≡ th.open_run
+with_open_page-run th types.Cons first = refl
+with_open_page-run th types.Boxed first = refl
+with_open_page-run th types.Unboxed first = refl
+
+-- the thread after it opened a run, and what is open in it
+abbrev pub thread_with_run : Thread → PageType → ℕ → ℕ → Thread
+thread_with_run th ty first k = if k == 1 then with_open_page th ty first else record th { open_run = Some first }
+
+pub record OpensRun (th : Thread) (ty : PageType) (first k : ℕ) (new : Thread) : Type 0 where
+  pub cells : HasSameCells th new
+  pub pages : (other : PageType) (page : ℕ) → open_page new other ≡ Some page →
+      (open_page th other ≡ Some page) ⊎ ((other ≡ ty) × (page ≡ first) × (k ≡ 1))
+  pub run : (page : ℕ) → new.open_run ≡ Some page → (th.open_run ≡ Some page) ⊎ ((page ≡ first) × (k ≢ 1))
+
+pub opens_run : (th : Thread) (ty : PageType) (first k : ℕ) → OpensRun th ty first k (thread_with_run th ty first k)
+opens_run th ty first k = elim (cases_eq k 1) [
+      inl one ↦ rw (eq-eqb k 1 one) (record {
+        cells = with_open_page-cells th ty first;
+        pages = λ other page e. elim (opened_page_cases th ty first other page e) [ inl old ↦ inl old | inr new ↦ inr (new.0, new.1, one) ];
+        run = λ page e. inl (sym (with_open_page-run th ty first) ∙ e);
+      })
+    | inr more ↦ rw (ne_eqb k 1 more) (record {
+        cells = record { done = refl; stack = refl; exact = refl; raws = refl; owed = refl; pins = refl; inhibits = refl; ended = refl };
+        pages = λ other page e. inl (same_pages th first other page e);
+        run = λ page e. inr (cc, more);
+      })
+    ]
+  where
+    same_pages : (th : Thread) (first : ℕ) (other : PageType) (page : ℕ) → open_page (record th { open_run = Some first }) other ≡ Some page → open_page th other ≡ Some page
+    same_pages th first types.Cons page e = e
+    same_pages th first types.Boxed page e = e
+    same_pages th first types.Unboxed page e = e
+
+-- where nobody has the new page, the threads' pages and runs are their own still
+pub own_opened : (p : Program) (b : NamedHeap) (t : ℕ) (new : Thread) (ty : PageType) (first k : ℕ) → IsWellFormed p b →
+    OpensRun (thread_at b t) ty first k new → ((u : ℕ) (other : PageType) → open_page (thread_at b u) other ≡ Some first → ⊥) →
+    ((u : ℕ) → (thread_at b u).open_run ≡ Some first → ⊥) → AreOwn (with_thread b t new)
+own_opened p b t new ty first k w opens nobody nobody_run = record {
+  pages = λ u v one other page e f. elim (back u one page e) [
+        inl h ↦ elim (back v other page f) [
+            inl g ↦ w.own_pages u v one other page h g
+          | inr g ↦ absurd (nobody u one (h ∙ ap {B = Option ℕ} (λ (x : ℕ). Some x) g.2))
+          ]
+      | inr h ↦ elim (back v other page f) [
+            inl g ↦ absurd (nobody v other (g ∙ ap {B = Option ℕ} (λ (x : ℕ). Some x) h.2))
+          | inr g ↦ (h.0 ∙ sym g.0, h.1 ∙ sym g.1)
+          ]
+      ];
+  runs = λ u v page e f. elim (back_run u page e) [
+        inl h ↦ elim (back_run v page f) [
+            inl g ↦ w.own_runs u v page h g
+          | inr g ↦ absurd (nobody_run u (h ∙ ap {B = Option ℕ} (λ (x : ℕ). Some x) g.1))
+          ]
+      | inr h ↦ elim (back_run v page f) [
+            inl g ↦ absurd (nobody_run v (g ∙ ap {B = Option ℕ} (λ (x : ℕ). Some x) h.1))
+          | inr g ↦ h.0 ∙ sym g.0
+          ]
+      ];
+}
+  where
+    back : (u : ℕ) (other : PageType) (page : ℕ) → open_page (thread_at (with_thread b t new) u) other ≡ Some page →
+        (open_page (thread_at b u) other ≡ Some page) ⊎ ((u ≡ t) × (other ≡ ty) × (page ≡ first))
+    back u other page e = elim (thread_cases b t u new) [
+          inl same ↦ inl (rw same at e)
+        | inr same ↦ elim (opens.pages other page (rw same.2 at e)) [
+              inl old ↦ inl (rw same.0 old)
+            | inr fresh ↦ inr (same.0, fresh.0, fresh.1)
+            ]
+        ]
+    back_run : (u : ℕ) (page : ℕ) → (thread_at (with_thread b t new) u).open_run ≡ Some page →
+        ((thread_at b u).open_run ≡ Some page) ⊎ ((u ≡ t) × (page ≡ first))
+    back_run u page e = elim (thread_cases b t u new) [
+          inl same ↦ inl (rw same at e)
+        | inr same ↦ elim (opens.run page (rw same.2 at e)) [
+              inl old ↦ inl (rw same.0 old)
+            | inr fresh ↦ inr (same.0, fresh.0)
+            ]
+        ]
+
+-- what was opened is open
+pub new_page_open : (pages : List Entry) (first k : ℕ) (ty other : PageType) (page : ℕ) → first + k ≤ length pages → other ≡ ty → page ≡ first → k ≡ 1 →
+    IsOpenPage other page (entry_at (with_run pages first k ty) page)
+new_page_open pages first k ty other page inside same at one =
+    rw (run_entry pages first k ty page inside (omega arith) (omega arith)) (sym same, refl, sym at, one)
+
+pub new_run_open : (pages : List Entry) (first k : ℕ) (ty : PageType) (page : ℕ) → first + k ≤ length pages → page ≡ first → 1 ≤ k → k ≢ 1 →
+    IsOpenRun (with_run pages first k ty) page
+new_run_open pages first k ty page inside at some more = record {
+  k = k;
+  long = omega arith;
+  inside = (let e = run_length pages first k ty inside in omega arith);
+  each = λ i l. rw (run_entry pages first k ty (page + i) inside (omega arith) (omega arith)) (refl, refl, sym at, refl);
+}
+
+-- a run that is open is not free
+pub open_run_taken : (pages : List Entry) (first : ℕ) → IsOpenRun pages first → entry_at pages first ≡ Free → ⊥
+open_run_taken pages first h free =
+    let two = h.long in
+    let page : IsOpenRunPage first h.k (entry_at pages (first + 0)) = h.each 0 (omega arith) in
+    let same : first + 0 ≡ first = omega arith in
+    let page' : IsOpenRunPage first h.k (entry_at pages first) = subst (λ (x : ℕ). IsOpenRunPage first h.k (entry_at pages x)) same page in
+    rw free at page'
+
+-- a thread opens a run of one page or more
+pub opened-kept : (p : Program) (a : NamedHeap) (t : ℕ) (ty : PageType) (first k : ℕ) → IsWellFormed p a → IsRun a.pages first k → 1 ≤ k →
+    IsWellFormed p (opened a t ty first k)
+unfolding opened
+opened-kept p a t ty first k w run some =
+    let pages = with_run a.pages first k ty in
+    let b : NamedHeap = record a { pages = pages } in
+    let wb : IsWellFormed p b = run-kept p a ty first k w run in
+    let th = thread_at a t in
+    let new = thread_with_run th ty first k in
+    let opens = opens_run th ty first k in
+    let free : entry_at a.pages first ≡ Free = free_is (entry_at a.pages first) (run.free first (omega arith) (omega arith)) in
+    let nobody : (u : ℕ) (other : PageType) → open_page (thread_at b u) other ≡ Some first → ⊥ = λ u other e. rw free at (open_page_used p a u other first w e) in
+    let nobody_run : (u : ℕ) → (thread_at b u).open_run ≡ Some first → ⊥ = λ u e. open_run_taken a.pages first (open_run_used p a u first w e) free in
+    with_thread-own p b t new wb
+    (λ l. with_cells_of a.objects pages th new (wb.threads t l) opens.cells.stack opens.cells.exact opens.cells.raws
+      (λ other page e. elim (opens.pages other page e) [
+          inl old ↦ open_page_used p b t other page wb old
+        | inr fresh ↦ new_page_open a.pages first k ty other page run.inside fresh.0 fresh.1 fresh.2
+        ])
+      (λ page e. elim (opens.run page e) [
+          inl old ↦ open_run_used p b t page wb old
+        | inr fresh ↦ new_run_open a.pages first k ty page run.inside fresh.0 some fresh.1
+        ]))
+    (opens.cells.owed ∙ w.owes_nothing t) (opens.cells.pins ∙ w.pins_nothing t)
+    (own_opened p b t new ty first k wb opens nobody nobody_run)
