@@ -8,3 +8,4 @@ pub mod Staying
 pub mod Threading
 pub mod Writing
 pub mod Opening
+pub mod Building
