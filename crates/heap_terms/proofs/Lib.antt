@@ -5,3 +5,7 @@ pub mod Places
 pub mod Effects
 pub mod Living
 pub mod Staying
+pub mod Threading
+pub mod Writing
+pub mod Opening
+pub mod Building
