@@ -11,3 +11,4 @@ pub mod Complete
 pub mod Text
 pub mod WellFormed
 pub mod Stands
+pub mod PageRuns

@@ -4,3 +4,5 @@ pub mod ObjectLemmas
 pub mod WordLemmas
 pub mod PutLemmas
 pub mod CommitLemmas
+pub mod Unchanged
+pub mod PerformLemmas

@@ -7,3 +7,5 @@ pub mod State
 pub mod Standing
 pub mod Sound
 pub mod Outcome
+pub mod Wishes
+pub mod Reading

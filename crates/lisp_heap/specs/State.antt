@@ -1,5 +1,5 @@
 -- What the World keeps of a thread beside its cells.
-use Rattle.std.specs.Prelude.{ℕ, Option, Some, None, false}
+use Rattle.std.specs.Prelude.{ℕ, ◌+◌, List, Option, Some, None, false, slice_index_or, slice_set}
 use Rattle.heap_terms.specs.declared.kinds.PageType.{PageType}
 use Rattle.heap_terms.specs.declared.kinds.PageType.TheVariants as types
 use Rattle.heap_terms.specs.Heap.{Thread}
@@ -22,3 +22,9 @@ abbrev pub with_state_page : ThreadState → PageType → ℕ → ThreadState
 with_state_page s types.Cons page = record s { cons_page = Some page }
 with_state_page s types.Boxed page = record s { boxed_page = Some page }
 with_state_page s types.Unboxed page = record s { unboxed_page = Some page }
+
+-- the states with one thread one command further in its script
+abbrev pub advanced : List ThreadState → ℕ → List ThreadState
+advanced states t =
+    let state = slice_index_or states t fresh_state in
+    slice_set states t (record state { done = state.done + 1 })

@@ -6,6 +6,7 @@
 mod cells;
 mod outcome;
 mod parcels;
+mod reading;
 mod states;
 mod world;
 

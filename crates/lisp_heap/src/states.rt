@@ -1,7 +1,8 @@
 //! What the World keeps of each thread beside its cells.
 
-ghost use Rattle.std.specs.Prelude.{◌≡◌, ◌+◌, None, false, replicate, IfOk};
-ghost use Rattle.lisp_heap.specs.State.{fresh_state, state_page, with_state_page};
+ghost use Rattle.std.specs.Prelude.{◌≡◌, ◌+◌, ◌<◌, ◌^◌, length, slice_get, replicate, IfOk};
+ghost use Rattle.std.specs.Option.{ForSome};
+ghost use Rattle.lisp_heap.specs.State.{advanced, fresh_state, state_page, with_state_page};
 
 use heap_terms::{Memory, PageType, Seq};
 use std::alloc::Global;
@@ -70,4 +71,20 @@ pub fn fresh_states(alloc: Global, threads: usize) -> Result<States, Memory>
         Ok(()) => Ok(Seq::from_vec(states)),
         Err(_) => Err(Memory),
     }
+}
+
+/// One thread is one command further in its script.
+pub fn advance(states: &mut States, t: usize)
+    requires thread { t < length states.old }
+    requires room { ForSome (slice_get states.old t) (λ state. state.done + 1 < 2 ^ 64) }
+    ensures { states.new ≡ advanced states.old t }
+{
+    let state = states.at(t);
+    states.set(
+        t,
+        ThreadState {
+            done: state.done + 1,
+            ..state
+        },
+    );
 }
