@@ -9,3 +9,4 @@ pub mod Threading
 pub mod Writing
 pub mod Opening
 pub mod Building
+pub mod Committing
