@@ -10,3 +10,4 @@ pub mod Writing
 pub mod Opening
 pub mod Building
 pub mod Committing
+pub mod Standing
