@@ -11,3 +11,4 @@ pub mod Opening
 pub mod Building
 pub mod Committing
 pub mod Standing
+pub mod Tasks
