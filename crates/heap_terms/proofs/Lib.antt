@@ -12,3 +12,5 @@ pub mod Building
 pub mod Committing
 pub mod Standing
 pub mod Tasks
+pub mod Sums
+pub mod Moving
