@@ -14,3 +14,4 @@ pub mod Standing
 pub mod Tasks
 pub mod Sums
 pub mod Moving
+pub mod Counting
