@@ -15,3 +15,4 @@ pub mod Tasks
 pub mod Sums
 pub mod Moving
 pub mod Counting
+pub mod Conses
