@@ -9,3 +9,10 @@ pub mod Threading
 pub mod Writing
 pub mod Opening
 pub mod Building
+pub mod Committing
+pub mod Standing
+pub mod Tasks
+pub mod Sums
+pub mod Moving
+pub mod Counting
+pub mod Conses
