@@ -9,3 +9,5 @@ pub mod Regions
 pub mod Histories
 pub mod Complete
 pub mod Text
+pub mod WellFormed
+pub mod Runs

@@ -1,0 +1,8 @@
+use Rattle.std.proofs.Common.{arith}
+use Rattle.page_table.proofs.Runs.{unpacked-resized}
+use Rattle.page_table.proofs.table.PageTable.new.Goals as goal
+
+pub returns-in-Ok : goal.returns-in-Ok
+returns-in-Ok c =
+    unpacked-resized _ _ c.free.result _ c.new-entries.result.items _ (omega (arith, c.new-entries.ensures.len)) c.new-entries.ensures.items
+    c.in-Ok.ensures.items c.free.ensures

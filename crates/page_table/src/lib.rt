@@ -1,0 +1,12 @@
+//! The table of a heap's pages: which are free, and of which type, generation, fill and run the
+//! others are. It finds the lowest run of free pages of a length. What lies on a page is for the
+//! layers above.
+#![tactic(auto)]
+
+mod packed;
+mod table;
+
+pub use table::PageTable;
+
+#[cfg(test)]
+mod tests;
