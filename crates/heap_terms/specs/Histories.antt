@@ -102,6 +102,13 @@ after p a (Opened t ty first k) = opened a t ty first k
 after p a (Collected t last passes) = a
 after p a (Ended t) = with_thread a t (ended_thread (thread_at a t))
 
+-- the thread that an event belongs to
+abbrev pub thread_of : Event → ℕ
+thread_of (Did t c answer) = t
+thread_of (Opened t ty first k) = t
+thread_of (Collected t last passes) = t
+thread_of (Ended t) = t
+
 -- each event of a list may come next, from a heap on
 abbrev pub LawfulFrom : Program → NamedHeap → List Event → Type 0
 LawfulFrom p a [] = Unit {0}

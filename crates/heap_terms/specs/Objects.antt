@@ -1,4 +1,4 @@
--- Objects of the named heap. What kinds there are is SBCL's, what they hold is this project's own.
+-- Objects of the named heap. What they hold is this project's own.
 use Rattle.std.specs.Prelude.{ℕ, List, [], ◌∷◌, length, Option, Some, None, ◌+◌, ◌*◌}
 use Rattle.heap_terms.specs.declared.cells.Value.{Value}
 use Rattle.heap_terms.specs.declared.kinds.Kind.{Kind}

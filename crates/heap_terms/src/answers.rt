@@ -40,7 +40,8 @@ pub type Items = Seq<Item>;
 pub enum PageView {
     /// The page is free.
     Free,
-    /// A page of a small region: `fill` words of it are used.
+    /// A page of a small region: `fill` words of it are used. A page of an open run whose object is
+    /// not committed yet is shown so too, with fill 0 and no items.
     Small {
         ty: PageType,
         generation: u8,

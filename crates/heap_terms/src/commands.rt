@@ -6,7 +6,7 @@ use crate::lists::Seq;
 
 /// One command of a thread. The number of a cell is at most 15, that of a raw cell at most 7.
 /// Where a cell is both destination and operand the operand's old value counts. The commands are
-/// this project's own; those on weak objects, pins and finalizers follow SBCL's manual.
+/// this project's own; what weak pointers, weak tables and finalizers keep follows SBCL's manual.
 #[derive(Debug, PartialEq, Eq, Clone, Copy)]
 pub enum Command {
     /// `fix d n`: d becomes the fixnum n.

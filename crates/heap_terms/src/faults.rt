@@ -1,5 +1,6 @@
 //! Why a script is refused.
 
+use std::alloc::{AllocError, AllocFailed};
 use thiserror::Error;
 
 /// Why a line is bad. The checks stand in this order; the first that fails decides.
@@ -38,3 +39,15 @@ pub enum LimitKind {
 #[derive(Clone, Copy, Debug, PartialEq, Eq, Error)]
 #[error("out of memory")]
 pub struct Memory;
+
+impl From<AllocError> for Memory {
+    fn from(_error: AllocError) -> Memory {
+        Memory
+    }
+}
+
+impl<T: Drop> From<AllocFailed<T>> for Memory {
+    fn from(_failed: AllocFailed<T>) -> Memory {
+        Memory
+    }
+}

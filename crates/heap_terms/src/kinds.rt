@@ -1,7 +1,7 @@
 //! What kinds of object there are, and on which pages they lie.
 
-/// The kind of an object. A cons has no header; every other kind has one. The kinds are SBCL's
-/// in name, their layouts are this project's own.
+/// The kind of an object. A cons has no header; every other kind has one. The kinds and
+/// their layouts are this project's own.
 #[derive(Clone, Copy, Debug, PartialEq, Eq)]
 pub enum Kind {
     /// Two values.
@@ -16,7 +16,7 @@ pub enum Kind {
     Words,
     /// A weak pointer: one value that it does not keep alive.
     Weak,
-    /// A hash table by identity with 1 to 64 pairs at the most.
+    /// A hash table by identity with room for 1 to 64 pairs.
     Table,
 }
 

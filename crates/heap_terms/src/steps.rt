@@ -2,12 +2,14 @@
 
 ghost use Rattle.std.specs.Prelude.{◌≡◌, ℕ};
 
-/// One step of a thread on a stop word: a single atomic exchange.
+/// One step of a thread on its own stop word, on another's, or on the word of the turn: a single
+/// atomic exchange.
 #[derive(Clone, Copy, Debug, PartialEq, Eq)]
 pub enum WordStep {
     /// Goes on after having been parked.
     Resume,
-    /// Enters a section, in which no collection may happen (pseudo-atomic, as in SBCL).
+    /// Enters a section, as SBCL's pseudo-atomic sections; that a stop waits for its end is this
+    /// project's own.
     Enter,
     /// Leaves the section.
     Leave,
@@ -34,7 +36,7 @@ pub enum StepAnswer {
     Inside,
     /// A stop stands in the thread's own word.
     StopFound,
-    /// The turn is with this thread.
+    /// The thread of this number holds the turn.
     Taken(u32),
     /// Not yet: the step waits.
     NotYet,

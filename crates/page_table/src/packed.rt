@@ -2,7 +2,7 @@
 
 ghost use Rattle.std.specs.Prelude.{◌≡◌, ◌≤◌, ◌<◌, ◌^◌};
 ghost use Rattle.heap_terms.specs.Regions.{is_free, with_fill};
-ghost use Rattle.heap_terms.specs.Runs.{with_generation, run_first_of};
+ghost use Rattle.heap_terms.specs.PageRuns.{with_generation, run_first_of};
 ghost use Rattle.heap_terms.specs.declared.pages.Entry.TheVariants as entries;
 ghost use Rattle.page_table.specs.Unpacked.{unpacked};
 

@@ -5,7 +5,7 @@ ghost use Rattle.heap_terms.specs.declared.pages.Entry.TheVariants as entries;
 ghost use Rattle.heap_terms.specs.Heap.{entry_at};
 ghost use Rattle.heap_terms.specs.Layout.{page_words};
 ghost use Rattle.heap_terms.specs.Regions.{is_free, IsRun, IsLowestRun, HasNoRun, with_run, with_fill};
-ghost use Rattle.heap_terms.specs.Runs.{with_run_of, with_generation, run_first_of};
+ghost use Rattle.heap_terms.specs.PageRuns.{with_run_of, with_generation, run_first_of};
 ghost use Rattle.page_table.specs.Unpacked.{unpacked_all};
 
 use crate::packed::Packed;

@@ -1,0 +1,75 @@
+-- What is known of the commands of a valid program.
+use Rattle.std.proofs.Common.{◌≡◌, ◌≢◌, ℕ, ◌+◌, ◌<◌, ◌≤◌, List, [], ◌∷◌, length, Option, Some, None, Bool, true, false, ◌⊎◌, inl, inr, refl, sym, ◌∙◌, subst, ap, arith}
+use Rattle.std.proofs.lemmas.Bool.{cases_lt, false≢true}
+use Rattle.std.proofs.lemmas.List.{get_or_past}
+use Rattle.std.proofs.lemmas.Option.{slice_get_within, get_or_from_slice_get, slice_get_past, none-some}
+use Rattle.std.specs.Prelude.{slice_get, slice_index_or, All}
+use Rattle.heap_terms.specs.declared.commands.Command.{Command}
+use Rattle.heap_terms.specs.declared.commands.Command.TheVariants.{Fix, MakeNil, Move, NewCons, NewVector, NewInstance, NewClosure, NewWords, NewWeak, NewTable, Get, Put, RawGet, RawPut, Same, Show, Addr, SetRaw, AddRaw, Pin, Unpin, WeakVal, TablePut, TableGet, TableRem, TableCount, Finalize, Cancel, RunFinalizers, Collect, Inhibit, Allow, ShowPage, Stat}
+use Rattle.heap_terms.specs.declared.kinds.Kind.{Kind}
+use Rattle.heap_terms.specs.declared.kinds.Kind.TheVariants as kinds
+use Rattle.heap_terms.specs.declared.programs.Program.{Program}
+use Rattle.heap_terms.specs.Histories.{script_of}
+use Rattle.heap_terms.specs.Regions.{Wish, Nothing, Make, wish_of}
+use Rattle.heap_terms.specs.Valid.{IsValid, IsCommand, name_of, is_built}
+
+-- a place in a script that has a command belongs to a thread
+pub script_thread : (p : Program) (t i : ℕ) (c : Command) → slice_get (script_of p t) i ≡ Some c → t < length p.threads
+script_thread p t i c e = elim (cases_lt t (length p.threads)) [
+      inl h ↦ h
+    | inr h ↦ absurd (none-some c (rw (get_or_past p.threads t [] h) at e))
+    ]
+
+-- and lies below the script's end
+pub script_place : (p : Program) (t i : ℕ) (c : Command) → slice_get (script_of p t) i ≡ Some c → i < length (script_of p t)
+script_place p t i c e = slice_get_within (script_of p t) i c e
+
+-- the commands of a valid program's scripts
+pub script_command : (p : Program) (t i : ℕ) (c : Command) → IsValid p → slice_get (script_of p t) i ≡ Some c → IsCommand c
+script_command p t i c valid e =
+    subst (λ x. IsCommand x) (get_or_from_slice_get (script_of p t) i c c e)
+    (valid.commands t [] (script_thread p t i c e) i c (script_place p t i c e))
+
+-- the five commands that are built
+abbrev pub IsBuilt : Command → Type 0
+IsBuilt (Fix d n) = Unit {0}
+IsBuilt (NewCons d a b) = Unit {0}
+IsBuilt (Get d c i) = Unit {0}
+IsBuilt (Put c i a) = Unit {0}
+IsBuilt (Show c) = Unit {0}
+IsBuilt _ = ⊥
+
+-- no other command's word is read
+pub IsBuilt-from_word : (c : Command) → is_built (name_of c) ≡ true → IsBuilt c
+IsBuilt-from_word (Fix d n) e = tt
+IsBuilt-from_word (NewCons d a b) e = tt
+IsBuilt-from_word (Get d c i) e = tt
+IsBuilt-from_word (Put c i a) e = tt
+IsBuilt-from_word (Show c) e = tt
+IsBuilt-from_word _ e = false≢true e
+
+-- what a built command wishes for
+pub built_wish : (c : Command) → IsBuilt c → (wish_of c ≡ Nothing) ⊎ (wish_of c ≡ Make kinds.Cons 2 0)
+built_wish (Fix d n) built = inl refl
+built_wish (NewCons d a b) built = inr refl
+built_wish (Get d c i) built = inl refl
+built_wish (Put c i a) built = inl refl
+built_wish (Show c) built = inl refl
+built_wish _ built = absurd built
+
+-- a command of a valid program's scripts is built
+pub script_built : (p : Program) (t i : ℕ) (c : Command) → IsValid p → slice_get (script_of p t) i ≡ Some c → IsBuilt c
+script_built p t i c valid e = IsBuilt-from_word c (script_command p t i c valid e).built
+
+-- and wishes for nothing or for a cons
+pub script_wish : (p : Program) (t i : ℕ) (c : Command) → IsValid p → slice_get (script_of p t) i ≡ Some c →
+    (wish_of c ≡ Nothing) ⊎ (wish_of c ≡ Make kinds.Cons 2 0)
+script_wish p t i c valid e = built_wish c (script_built p t i c valid e)
+
+-- a command that wishes for something is in a valid program's scripts only if it is `cons`
+pub only_cons_built : (p : Program) (t i : ℕ) (c : Command) (kind : Kind) (n seed : ℕ) → IsValid p →
+    slice_get (script_of p t) i ≡ Some c → wish_of c ≡ Make kind n seed → (kind ≡ kinds.Cons) × (n ≡ 2) × (seed ≡ 0)
+only_cons_built p t i c kind n seed valid e w = elim (script_wish p t i c valid e) [
+      inl h ↦ cc
+    | inr h ↦ (cc, cc, cc)
+    ]

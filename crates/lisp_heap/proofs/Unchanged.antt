@@ -1,0 +1,65 @@
+-- What stands for a heap stands for another one with the same objects, pages and cells.
+use Rattle.std.proofs.Common.{◌≡◌, ◌≢◌, ℕ, ◌+◌, ◌*◌, ◌/◌, ◌<◌, List, [], ◌∷◌, ◌++◌, length, map, refl, sym, ◌∙◌, subst, ap, arith, get_or, set, length-set, inl, inr, Option, Some, None}
+use Rattle.std.proofs.Math.Seq.{map-set_same}
+use Rattle.std.proofs.lemmas.List.{map-set, get_or-map}
+use Rattle.std.specs.Prelude.{slice_index, slice_set, IfSome}
+use Rattle.heap_terms.specs.declared.cells.Cell.{Cell}
+use Rattle.heap_terms.specs.declared.cells.Cell.TheVariants.{Stack, Exact, Shared}
+use Rattle.heap_terms.specs.declared.cells.Value.{Value}
+use Rattle.heap_terms.specs.declared.pages.Entry.{Entry}
+use Rattle.heap_terms.specs.Cells.{with_cell}
+use Rattle.heap_terms.specs.Heap.{NamedHeap, Thread, thread_at, with_thread, object_at, entry_at, fill_of}
+use Rattle.heap_terms.specs.Layout.{page_words, filler_word}
+use Rattle.heap_terms.specs.Objects.{Object}
+use Rattle.heap_terms.specs.Stands.{WordsStand, AreAt}
+use Rattle.heap_terms.specs.WellFormed.{IsOwned}
+use Rattle.heap_terms.specs.Words.{spelling}
+use Rattle.lisp_heap.specs.Standing.{LabelsStand}
+use Rattle.lisp_heap.specs.State.{state_of}
+use Rattle.lisp_heap.specs.declared.states.ThreadState.{ThreadState}
+
+pub WordsStand-same : (a b : NamedHeap) (words : List ℕ) → b.objects ≡ a.objects → b.pages ≡ a.pages → WordsStand a words → WordsStand b words
+WordsStand-same a b words objects pages s = record {
+  long = s.long ∙ ap (λ (ps : List Entry). page_words * length ps) (sym pages);
+  spelled = subst (λ (os : List (Option Object)). (name : ℕ) → IfSome (object_at os name) (λ o. AreAt words o.place (spelling os o.contents))) (sym objects) s.spelled;
+  fillers = subst (λ (os : List (Option Object)). (page i : ℕ) → i < fill_of (entry_at b.pages page) → ¬ IsOwned os (page_words * page + i) →
+      slice_index words (page_words * page + i) ≡ filler_word) (sym objects)
+    (subst (λ (ps : List Entry). (page i : ℕ) → i < fill_of (entry_at ps page) → ¬ IsOwned a.objects (page_words * page + i) →
+      slice_index words (page_words * page + i) ≡ filler_word) (sym pages) s.fillers) }
+
+pub LabelsStand-same : (a b : NamedHeap) (labels : List ℕ) → b.objects ≡ a.objects → b.pages ≡ a.pages → LabelsStand a labels → LabelsStand b labels
+LabelsStand-same a b labels objects pages s = record {
+  long = s.long ∙ ap (λ (ps : List Entry). 256 * length ps) (sym pages);
+  named = subst (λ (os : List (Option Object)). (name : ℕ) → IfSome (object_at os name) (λ o. slice_index labels (o.place / 2) ≡ name)) (sym objects) s.named }
+
+-- a write of a cell changes no object, no page and no state
+pub with_cell-objects : (a : NamedHeap) (t : ℕ) (cell : Cell) (v : Value) → (with_cell a t cell v).objects ≡ a.objects
+with_cell-objects a t (Stack i) v = refl
+with_cell-objects a t (Exact i) v = refl
+with_cell-objects a t (Shared i) v = refl
+
+pub with_cell-pages : (a : NamedHeap) (t : ℕ) (cell : Cell) (v : Value) → (with_cell a t cell v).pages ≡ a.pages
+with_cell-pages a t (Stack i) v = refl
+with_cell-pages a t (Exact i) v = refl
+with_cell-pages a t (Shared i) v = refl
+
+pub with_cell-states : (a : NamedHeap) (t : ℕ) (cell : Cell) (v : Value) → map state_of (with_cell a t cell v).threads ≡ map state_of a.threads
+with_cell-states a t (Stack i) v = map-set_same state_of a.threads t (record (thread_at a t) { stack = slice_set (thread_at a t).stack i v }) _ refl
+with_cell-states a t (Exact i) v = map-set_same state_of a.threads t (record (thread_at a t) { exact = slice_set (thread_at a t).exact i v }) _ refl
+with_cell-states a t (Shared i) v = refl
+
+pub with_cell-threads : (a : NamedHeap) (t : ℕ) (cell : Cell) (v : Value) → length (with_cell a t cell v).threads ≡ length a.threads
+with_cell-threads a t (Stack i) v = length-set a.threads t (record (thread_at a t) { stack = slice_set (thread_at a t).stack i v })
+with_cell-threads a t (Exact i) v = length-set a.threads t (record (thread_at a t) { exact = slice_set (thread_at a t).exact i v })
+with_cell-threads a t (Shared i) v = refl
+
+-- the state of a thread among the states
+pub state_read : (a : NamedHeap) (states : List ThreadState) (t : ℕ) (d : ThreadState) → states ≡ map state_of a.threads → t < length a.threads →
+    get_or states t d ≡ state_of (thread_at a t)
+state_read a states t d is h = ap (λ (xs : List ThreadState). get_or xs t d) is ∙ get_or-map state_of a.threads t _ d h
+
+-- a thread changed, and its state with it
+pub states_set : (a : NamedHeap) (states : List ThreadState) (t : ℕ) (th : Thread) (state : ThreadState) → states ≡ map state_of a.threads →
+    state ≡ state_of th → set states t state ≡ map state_of (with_thread a t th).threads
+states_set a states t th state is same =
+    ap (λ (xs : List ThreadState). set xs t state) is ∙ ap (set (map state_of a.threads) t) same ∙ sym (map-set state_of a.threads t th)

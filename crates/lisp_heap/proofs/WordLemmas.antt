@@ -1,0 +1,63 @@
+-- The words of the space go on standing for the heap.
+use Rattle.std.proofs.Common.{◌≡◌, ◌≢◌, ℕ, zero, suc, ◌+◌, ◌*◌, ◌/◌, ◌%◌, ◌<◌, ◌≤◌, List, [], ◌∷◌, ◌++◌, length, refl, sym, ◌∙◌, subst, ap, ap₂, arith, get_or, set, length-set, get_or-set_same, get_or-set_other, inl, inr, Option, Some, None, ◌⊎◌}
+use Rattle.std.proofs.lemmas.Bool.{cases_eq, cases_lt}
+use Rattle.std.specs.Prelude.{slice_index, IfSome}
+use Rattle.heap_terms.specs.declared.cells.Value.{Value}
+use Rattle.heap_terms.specs.declared.cells.Value.TheVariants.{Ref}
+use Rattle.heap_terms.specs.declared.programs.Program.{Program}
+use Rattle.heap_terms.specs.Heap.{NamedHeap, object_at, entry_at, fill_of}
+use Rattle.heap_terms.specs.Layout.{page_words}
+use Rattle.heap_terms.specs.Objects.{Object, Contents, ConsOf, words_of_object}
+use Rattle.heap_terms.specs.Simple.{with_field_at, object_with_field, with_field}
+use Rattle.heap_terms.specs.Stands.{WordsStand, AreAt}
+use Rattle.heap_terms.specs.WellFormed.{IsWellFormed, IsLiving, AreApart, IsPlaced, IsOwned}
+use Rattle.heap_terms.specs.Words.{word_of, spelling}
+use Rattle.heap_terms.proofs.Places.{IfSome-at, IfSome-from}
+use Rattle.lisp_heap.proofs.ObjectLemmas.{word_of-with_field_at, word_of-push}
+
+-- each object is a cons: so far no other kind is built
+abbrev pub AreConses : List (Option Object) → Type 0
+AreConses objects = (name : ℕ) (o : Object) → object_at objects name ≡ Some o → (p : Value) × (q : Value) × (o.contents ≡ ConsOf p q)
+
+-- a cons takes two words
+pub cons_words : (o : Object) (p q : Value) → o.contents ≡ ConsOf p q → words_of_object o ≡ 2
+cons_words o p q e = ap (λ (k : Contents). words_of_object (record o { contents = k })) e
+
+-- what stands for a cons
+pub cons_at : (a : NamedHeap) (words : List ℕ) (x : ℕ) (o : Object) (p q : Value) → WordsStand a words →
+    object_at a.objects x ≡ Some o → o.contents ≡ ConsOf p q →
+    (slice_index words o.place ≡ word_of a.objects p) × (slice_index words (o.place + 1) ≡ word_of a.objects q)
+cons_at a words x o p q s there is =
+    let spelled : AreAt words o.place (spelling a.objects o.contents) =
+      IfSome-at (λ o. AreAt words o.place (spelling a.objects o.contents)) (object_at a.objects x) o there (s.spelled x) in
+    let two : AreAt words o.place (spelling a.objects (ConsOf p q)) =
+      subst (λ (k : Contents). AreAt words o.place (spelling a.objects k)) is spelled in
+    let first : slice_index words (o.place + 0) ≡ word_of a.objects p = two 0 (omega arith) in
+    let at_place : o.place + 0 ≡ o.place = omega arith in
+    (subst (λ (k : ℕ). slice_index words k ≡ word_of a.objects p) at_place first, two 1 (omega arith))
+
+-- and the other way round
+are_two : (words : List ℕ) (from p q : ℕ) → slice_index words from ≡ p → slice_index words (from + 1) ≡ q → AreAt words from (p ∷ q ∷ [])
+are_two words from p q hp hq zero h = subst (λ (k : ℕ). slice_index words k ≡ p) (omega arith) hp
+are_two words from p q hp hq (suc zero) h = hq
+are_two words from p q hp hq (suc (suc i)) h = absurd (omega arith)
+
+pub cons_spelled : (objects : List (Option Object)) (words : List ℕ) (o : Object) (p q : Value) → o.contents ≡ ConsOf p q →
+    slice_index words o.place ≡ word_of objects p → slice_index words (o.place + 1) ≡ word_of objects q →
+    AreAt words o.place (spelling objects o.contents)
+cons_spelled objects words o p q is hp hq =
+    subst (λ (k : Contents). AreAt words o.place (spelling objects k)) (sym is)
+      (are_two words o.place (word_of objects p) (word_of objects q) hp hq)
+
+-- where no word is left over, fillers are none
+pub no_fillers : (p : Program) (a : NamedHeap) (words : List ℕ) → IsWellFormed p a → (page i : ℕ) → i < fill_of (entry_at a.pages page) →
+    ¬ IsOwned a.objects (page_words * page + i) → slice_index words (page_words * page + i) ≡ 0x41
+no_fillers p a words wf page i h none = absurd (none (wf.owned page i h))
+
+-- a word that lies outside a cons is none of its two
+pub outside : (words : List ℕ) (place at word : ℕ) → (at < place) ⊎ (place + 2 ≤ at) →
+    (slice_index (set words at word) place ≡ slice_index words place) × (slice_index (set words at word) (place + 1) ≡ slice_index words (place + 1))
+outside words place at word h =
+    let not_first : place ≢ at = λ e. elim h [ inl l ↦ omega arith | inr r ↦ omega arith ] in
+    let not_second : place + 1 ≢ at = λ e. elim h [ inl l ↦ omega arith | inr r ↦ omega arith ] in
+    (get_or-set_other words at place word 0 not_first, get_or-set_other words at (place + 1) word 0 not_second)

@@ -1,0 +1,34 @@
+-- The words in the Lisp cells of all threads.
+use Rattle.std.specs.Prelude.{ℕ, ◌+◌, ◌*◌, List, take, drop, ◌++◌, replicate, slice_index, slice_set}
+use Rattle.heap_terms.specs.declared.cells.Cell.{Cell}
+use Rattle.heap_terms.specs.declared.cells.Cell.TheVariants.{Stack, Exact, Shared}
+
+-- the cells s of all threads, 16 for each, likewise the cells b, and the 16 cells g
+pub record CellsView : Type 0 where
+  pub stack : List ℕ
+  pub exact : List ℕ
+  pub shared : List ℕ
+
+-- where cell i of thread t stands among those of all threads
+abbrev pub spot : ℕ → ℕ → ℕ
+spot t i = 16 * t + i
+
+-- the word in a cell of thread t
+abbrev pub cell_word : CellsView → ℕ → Cell → ℕ
+cell_word v t (Stack i) = slice_index v.stack (spot t i)
+cell_word v t (Exact i) = slice_index v.exact (spot t i)
+cell_word v t (Shared i) = slice_index v.shared i
+
+-- the cells after a word was put into one of thread t
+abbrev pub with_cell_word : CellsView → ℕ → Cell → ℕ → CellsView
+with_cell_word v t (Stack i) word = record v { stack = slice_set v.stack (spot t i) word }
+with_cell_word v t (Exact i) word = record v { exact = slice_set v.exact (spot t i) word }
+with_cell_word v t (Shared i) word = record v { shared = slice_set v.shared i word }
+
+-- sixteen zeros in the place of thread t's cells
+abbrev pub cleared : List ℕ → ℕ → List ℕ
+cleared words t = take (16 * t) words ++ replicate 16 0 ++ drop (16 * t + 16) words
+
+-- the cells after thread t's own were cleared
+abbrev pub with_cleared : CellsView → ℕ → CellsView
+with_cleared v t = record v { stack = cleared v.stack t; exact = cleared v.exact t }

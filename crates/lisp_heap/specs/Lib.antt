@@ -1,0 +1,11 @@
+pub mod View
+pub mod Parcels
+pub mod Agreement
+pub mod Events
+pub mod CellsView
+pub mod State
+pub mod Standing
+pub mod Sound
+pub mod Outcome
+pub mod Wishes
+pub mod Reading

@@ -1,0 +1,77 @@
+-- What contracts see of a Parcel: the open regions of one thread.
+use Rattle.std.specs.Prelude.{◌≡◌, ℕ, ◌+◌, ◌-◌, ◌*◌, ◌≤◌, ◌<◌, ◌^◌, Option, Some, None, IsSome, IfSome, IsSomeAnd, if◌then◌else◌, is_some, List}
+use Rattle.heap_terms.specs.declared.kinds.Kind.{Kind}
+use Rattle.heap_terms.specs.declared.kinds.Kind.TheVariants as kinds
+use Rattle.heap_terms.specs.declared.kinds.PageType.{PageType}
+use Rattle.heap_terms.specs.declared.kinds.PageType.TheVariants as types
+use Rattle.heap_terms.specs.Layout.{page_words, page_type_of, size_of}
+use Rattle.heap_terms.specs.Regions.{is_small}
+
+-- an object that was built in a region and not committed: its kind, its words of payload and its seed
+pub record Making : Type 0 where
+  pub kind : Kind
+  pub n : ℕ
+  pub seed : ℕ
+
+-- a region: its first page, its pages, the index at which its next object begins, and what is built there
+pub record RegionView : Type 0 where
+  pub first : ℕ
+  pub pages : ℕ
+  pub next : ℕ
+  pub built : Option Making
+
+-- a parcel: its owner, the open small region of each type, and the open run for a large object
+pub record ParcelView : Type 0 where
+  pub owner : ℕ
+  pub cons : Option RegionView
+  pub boxed : Option RegionView
+  pub unboxed : Option RegionView
+  pub run : Option RegionView
+
+-- a parcel without regions
+abbrev pub empty_parcel : ℕ → ParcelView
+empty_parcel owner = record { owner = owner; cons = None; boxed = None; unboxed = None; run = None }
+
+-- the small region of a type
+abbrev pub small_region : ParcelView → PageType → Option RegionView
+small_region q types.Cons = q.cons
+small_region q types.Boxed = q.boxed
+small_region q types.Unboxed = q.unboxed
+
+-- the region into which an object of a kind with n words of payload goes
+abbrev pub region_for : ParcelView → Kind → ℕ → Option RegionView
+region_for q kind n = if is_small (size_of kind n) then small_region q (page_type_of kind) else q.run
+
+-- how many words of a region are left
+abbrev pub room_of : RegionView → ℕ
+room_of r = page_words * (r.first + r.pages) - r.next
+
+-- an object can be built: the region of its class is there and has room
+abbrev pub HasRoom : ParcelView → Kind → ℕ → Type 0
+HasRoom q kind n = IsSomeAnd (region_for q kind n) (λ r. size_of kind n ≤ room_of r)
+
+-- what `build` makes: n words of payload of a kind, and a seed
+abbrev pub IsMaking : Kind → ℕ → ℕ → Type 0
+IsMaking kinds.Cons n seed = (n ≡ 2) × (seed ≡ 0)
+IsMaking kinds.Vector n seed = (n ≤ 65535) × (seed ≡ 0)
+IsMaking kinds.Instance n seed = (n ≤ 65535) × (seed ≡ 0)
+IsMaking kinds.Closure n seed = (n ≤ 65535) × (seed ≡ 0)
+IsMaking kinds.Words n seed = (n ≤ 65535) × (seed < 2 ^ 64)
+IsMaking kinds.Weak n seed = (n ≡ 1) × (seed ≡ 0)
+IsMaking kinds.Table n seed = ((b : ℕ) × (1 ≤ b) × (b ≤ 64) × (n ≡ 3 + 4 * b)) × (seed ≤ 4)
+
+-- this object is built in the region of its class and not committed
+abbrev pub HasBuilt : ParcelView → Kind → ℕ → ℕ → Type 0
+HasBuilt q kind n seed = IsSomeAnd (region_for q kind n) (λ r. r.built ≡ Some (record { kind = kind; n = n; seed = seed }))
+
+-- a region without what is built there
+abbrev pub place_of : RegionView → ℕ × ℕ × ℕ
+place_of r = (r.first, r.pages, r.next)
+
+-- the number of regions in a parcel
+abbrev pub one_if : Option RegionView → ℕ
+one_if None = 0
+one_if (Some r) = 1
+
+abbrev pub regions_in : ParcelView → ℕ
+regions_in q = one_if q.cons + one_if q.boxed + one_if q.unboxed + one_if q.run

@@ -1,0 +1,101 @@
+//! The words in the Lisp cells of all threads.
+
+ghost use Rattle.std.specs.Prelude.{◌≡◌, ◌+◌, ◌*◌, ◌<◌, ◌≤◌, ◌^◌, ℕ, length, replicate, IfOk, slice_index, slice_set};
+ghost use Rattle.heap_terms.specs.Valid.{IsCell};
+ghost use Rattle.lisp_heap.specs.CellsView.{cell_word, with_cell_word, with_cleared, cleared};
+
+use heap_terms::{Cell, Memory};
+use std::alloc::Global;
+use std::marker::Model;
+
+/// How many cells of each kind a thread has.
+const CELLS: usize = 16;
+
+/// The cells s and b of each thread, and the cells g.
+#[derive(Drop)]
+pub struct CellWords {
+    stack: Vec<u64>,
+    exact: Vec<u64>,
+    shared: Vec<u64>,
+}
+
+impl Model for CellWords {
+    ghost use Rattle.lisp_heap.specs.CellsView.{CellsView};
+
+    ghost Value = { CellsView };
+
+    ghost view = { λ s. record { stack = s.stack.items; exact = s.exact.items; shared = s.shared.items } };
+}
+
+/// So many words, each 0, which is the fixnum 0.
+fn zeros(alloc: Global, count: usize) -> Result<Vec<u64>, Memory>
+    ensures { IfOk result (λ words. words.items ≡ replicate count 0) }
+{
+    let mut words = Vec::new(alloc);
+    match words.resize(count, 0) {
+        Ok(()) => Ok(words),
+        Err(_) => Err(Memory),
+    }
+}
+
+/// Puts zeros into sixteen words.
+fn clear(words: &mut [u64], from: usize)
+    requires { from + 16 ≤ length words.old }
+    ensures { (t : ℕ) → from ≡ 16 * t → words.new ≡ cleared words.old t }
+{
+    words[from..from + CELLS].copy_from_slice(&[0; CELLS]);
+}
+
+impl CellWords {
+    /// The cells of so many threads, each the fixnum 0.
+    pub fn new(alloc: Global, threads: usize) -> Result<CellWords, Memory>
+        requires { threads ≤ 8 }
+        ensures { IfOk result (λ cells. cells ≡ record { stack = replicate (16 * threads) 0; exact = replicate (16 * threads) 0; shared = replicate 16 0 }) }
+    {
+        Ok(CellWords {
+            stack: zeros(alloc, CELLS * threads)?,
+            exact: zeros(alloc, CELLS * threads)?,
+            shared: zeros(alloc, CELLS)?,
+        })
+    }
+
+    /// The word in a cell of thread t.
+    pub fn read(&self, t: usize, cell: Cell) -> u64
+        requires cell { IsCell cell }
+        requires stack { 16 * t + 16 ≤ length self.now.stack }
+        requires exact { 16 * t + 16 ≤ length self.now.exact }
+        requires shared { length self.now.shared ≡ 16 }
+        ensures { result ≡ cell_word self.now t cell }
+    {
+        match cell {
+            Cell::Stack(i) => self.stack[CELLS * t + i as usize],
+            Cell::Exact(i) => self.exact[CELLS * t + i as usize],
+            Cell::Shared(i) => self.shared[i as usize],
+        }
+    }
+
+    /// Puts a word into a cell of thread t.
+    pub fn write(&mut self, t: usize, cell: Cell, word: u64)
+        requires cell { IsCell cell }
+        requires stack { 16 * t + 16 ≤ length self.old.stack }
+        requires exact { 16 * t + 16 ≤ length self.old.exact }
+        requires shared { length self.old.shared ≡ 16 }
+        ensures { self.new ≡ with_cell_word self.old t cell word }
+    {
+        match cell {
+            Cell::Stack(i) => self.stack[CELLS * t + i as usize] = word,
+            Cell::Exact(i) => self.exact[CELLS * t + i as usize] = word,
+            Cell::Shared(i) => self.shared[i as usize] = word,
+        }
+    }
+
+    /// Clears thread t's own cells.
+    pub fn clear(&mut self, t: usize)
+        requires stack { 16 * t + 16 ≤ length self.old.stack }
+        requires exact { 16 * t + 16 ≤ length self.old.exact }
+        ensures { self.new ≡ with_cleared self.old t }
+    {
+        clear(self.stack.as_mut_slice(), CELLS * t);
+        clear(self.exact.as_mut_slice(), CELLS * t);
+    }
+}

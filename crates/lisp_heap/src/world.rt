@@ -1,0 +1,167 @@
+//! The World.
+
+ghost use Rattle.std.specs.Prelude.{◌≡◌, ◌↔◌, ◌<◌, ℕ, [], length, IsTrue, OnOk, OnErr, IfOk};
+ghost use Rattle.std.specs.Option.{ForSome};
+ghost use Rattle.heap_terms.specs.Heap.{thread_at};
+ghost use Rattle.heap_terms.specs.Regions.{wish_of, page_has_room};
+ghost use Rattle.heap_terms.specs.declared.pages.Next.{Next};
+ghost use Rattle.heap_terms.specs.Histories.{Lawful, command_at, next_for};
+ghost use Rattle.heap_terms.specs.Valid.{IsValid};
+ghost use Rattle.lisp_heap.specs.Agreement.{Agrees, CanBuild};
+ghost use Rattle.lisp_heap.specs.Events.{Happens};
+ghost use Rattle.lisp_heap.specs.Parcels.{ParcelView};
+ghost use Rattle.lisp_heap.specs.State.{state_of};
+ghost use Rattle.lisp_heap.specs.Wishes.{Wishes};
+ghost use Rattle.lisp_heap.specs.View.{heap_of, next_of};
+
+use crate::cells::CellWords;
+use crate::outcome::{Outcome, apply};
+use crate::states::{States, ThreadState, advance};
+use heap_terms::{Command, Entry, Event, Kind, Memory, Next, Program, Seq};
+use page_table::PageTable;
+use std::alloc::Global;
+use std::marker::Model;
+use word_space::Space;
+
+/// How many words a page has.
+const PAGE_WORDS: u32 = 512;
+
+/// A script's heap: its words, pages, cells and history.
+#[derive(Drop)]
+pub struct World {
+    pub(crate) program: Program,
+    pub(crate) space: Space,
+    pub(crate) pages: PageTable,
+    /// For each double word the name of the object that starts there. Only printing reads it.
+    pub(crate) labels: Seq<u32>,
+    pub(crate) cells: CellWords,
+    pub(crate) states: States,
+    pub(crate) commits: u32,
+    pub(crate) history: Vec<Event>,
+}
+
+impl Model for World {
+    ghost use Rattle.lisp_heap.specs.View.{View};
+
+    ghost Value = { View };
+
+    ghost use Rattle.lisp_heap.specs.Sound.{view_of, IsSound};
+
+    ghost view = { view_of };
+
+    ghost invariant = { IsSound };
+}
+
+impl World {
+    /// How many threads there are. It takes no memory.
+    pub fn threads(&self) -> u32
+        ensures { result ≡ length self.now.program.threads }
+    {
+        self.program.threads.len() as u32
+    }
+
+    /// What has happened so far: a lawful history of a valid program. It takes no memory.
+    pub fn history(&self) -> &[Event]
+        ensures history { result.now ≡ self.now.history }
+        ensures lawful { Lawful self.now.program self.now.history }
+        ensures valid { IsValid self.now.program }
+    {
+        self.history.as_slice()
+    }
+
+    /// The command at thread t's place in its script.
+    pub(crate) fn command(&self, t: usize) -> Option<Command>
+        requires { t < length self.now.program.threads }
+        ensures { result ≡ command_at self.now.program (heap_of self.now) t }
+    {
+        let script = self.program.threads.item(t);
+        let done = self.states.at(t).done;
+        if done < script.len() {
+            Some(script.at(done))
+        } else {
+            None
+        }
+    }
+
+    /// What thread t does next. Where it builds an object, every parcel of t that agrees has room
+    /// for it. It takes no memory.
+    pub fn next(&self, t: u32) -> Next
+        requires { t < length self.now.program.threads }
+        ensures next { result ≡ next_of self.now t }
+        ensures room { (q : ParcelView) → q.owner ≡ t → Agrees (heap_of self.now) q → CanBuild result q }
+    {
+        let state = self.states.at(t as usize);
+        if state.ended {
+            return Next::Done;
+        }
+        match self.command(t as usize) {
+            None => Next::End,
+            Some(command) => self.next_for(state, command),
+        }
+    }
+
+    /// What a thread in a state does for a command.
+    fn next_for(&self, state: ThreadState, command: Command) -> Next
+        requires { Wishes (heap_of self.now) state command }
+        ensures { (t : ℕ) → state ≡ state_of (thread_at (heap_of self.now) t) →
+            result ≡ next_for (heap_of self.now) t (wish_of command) }
+    {
+        match command {
+            Command::NewCons { .. } => {
+                if self.has_room(state.cons_page) {
+                    Next::Build {
+                        kind: Kind::Cons,
+                        n: 2,
+                        seed: 0,
+                    }
+                } else {
+                    Next::Open
+                }
+            }
+            _ => Next::Simple,
+        }
+    }
+
+    /// Whether an open page has room for a cons.
+    fn has_room(&self, page: Option<u32>) -> bool
+        requires { ForSome page (λ page. page < length (heap_of self.now).pages) }
+        ensures { result ≡ page_has_room (heap_of self.now).pages page 2 }
+    {
+        match page {
+            None => false,
+            Some(page) => match self.pages.entry(page) {
+                Entry::Free => false,
+                Entry::Used { fill, .. } => fill + 2 <= PAGE_WORDS,
+            },
+        }
+    }
+
+    /// Thread t does its next command, which allocates nothing. For want of memory nothing changes.
+    pub fn perform(&mut self, t: u32) -> Result<(), Memory>
+        requires thread { t < length self.old.program.threads }
+        requires simple { next_of self.old t ≡ Next.Simple }
+        ensures ok { OnOk result (Happens t self.old self.new) }
+        ensures others { OnOk result ((q : ParcelView) → Agrees (heap_of self.old) q → Agrees (heap_of self.new) q) }
+        ensures err { OnErr result (self.new ≡ self.old) }
+    {
+        let command = self.command(t as usize).unwrap();
+        let Outcome { answer, change } = self.outcome(t as usize, command);
+        self.history.push(Event::Did {
+            thread: t,
+            command,
+            answer,
+        })?;
+        apply(&mut self.cells, &mut self.space, t as usize, change);
+        advance(&mut self.states, t as usize);
+        Ok(())
+    }
+}
+
+/// What `lend` did.
+#[derive(Clone, Copy, Debug, PartialEq, Eq)]
+pub enum Lent {
+    /// A region was opened and is in the parcel.
+    Opened,
+    /// No run of free pages is long enough: the command was answered `!exhausted`.
+    Exhausted,
+}

@@ -1,0 +1,74 @@
+//! References: a byte address of a double word plus a lowtag in the low four bits, as in SBCL.
+
+ghost use Rattle.std.specs.Prelude.{◌≡◌, ◌<◌, ◌%◌, ℕ, IfSome, IsNone};
+ghost use Rattle.heap_terms.specs.Layout.{reference_word, lowtag_of};
+ghost use Rattle.lisp_words.specs.declared.pointers.Lowtag.{Lowtag};
+ghost use Rattle.lisp_words.specs.Tagged.{IsTagged, tag_bits};
+
+use heap_terms::Kind;
+
+/// The byte address of the word with index 0.
+const BASE: u64 = 0x10_0000_0000;
+
+/// How many words a space has at the most.
+const MOST_WORDS: u64 = 524_288;
+
+/// The low four bits of a reference, which say a little of what it refers to.
+#[derive(Clone, Copy, Debug, PartialEq, Eq)]
+pub enum Lowtag {
+    /// 3: an instance.
+    Instance,
+    /// 7: a cons.
+    List,
+    /// 11: a closure.
+    Function,
+    /// 15: every other kind.
+    Other,
+}
+
+/// The word of a reference to an object of a kind that starts at an index below 524,288.
+pub fn tag(index: u32, kind: Kind) -> u64
+    requires { index < 524288 }
+    ensures { result ≡ reference_word index kind }
+{
+    BASE + 8 * u64::from(index) + bits(kind)
+}
+
+/// The low four bits of a reference to an object of a kind.
+fn bits(kind: Kind) -> u64
+    ensures { result ≡ lowtag_of kind }
+{
+    match kind {
+        Kind::Cons => 7,
+        Kind::Instance => 3,
+        Kind::Closure => 11,
+        Kind::Vector | Kind::Words | Kind::Weak | Kind::Table => 15,
+    }
+}
+
+/// The index and the lowtag of a reference; `None` exactly where the word is no address of an even
+/// index below 524,288 plus one of the four lowtags.
+pub fn untag(word: u64) -> Option<(u32, Lowtag)>
+    ensures tagged { IfSome result (λ found. IsTagged word found.0 found.1) }
+    ensures none { IsNone result → (index : ℕ) (tag : Lowtag) → IsTagged word index tag → ⊥ }
+{
+    if word < BASE || word >= BASE + 8 * MOST_WORDS {
+        return None;
+    }
+    let lowtag = lowtag_of_bits(word % 16)?;
+    Some(((word - BASE) as u32 / 16 * 2, lowtag))
+}
+
+/// The lowtag of four bits.
+fn lowtag_of_bits(bits: u64) -> Option<Lowtag>
+    ensures tag { IfSome result (λ tag. bits ≡ tag_bits tag) }
+    ensures none { IsNone result → (tag : Lowtag) → bits ≡ tag_bits tag → ⊥ }
+{
+    match bits {
+        3 => Some(Lowtag::Instance),
+        7 => Some(Lowtag::List),
+        11 => Some(Lowtag::Function),
+        15 => Some(Lowtag::Other),
+        _ => None,
+    }
+}
