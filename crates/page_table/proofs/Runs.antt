@@ -1,5 +1,5 @@
 -- Runs of free pages, as a search from page 0 on meets them; and one entry written.
-use Rattle.std.proofs.Common.{suc, zero, replicate, take, drop, ◌++◌, ◌∷◌, [], ◌≡◌, ℕ, ◌+◌, ◌-◌, ◌<◌, ◌≤◌, Bool, true, false, List, length, map, refl, sym, ◌∙◌, ap, arith, inl, inr, ⊎_elim, set, get_or}
+use Rattle.std.proofs.Common.{suc, zero, replicate, take, drop, ◌++◌, ◌∷◌, [], ◌≡◌, ℕ, ◌+◌, ◌<◌, ◌≤◌, Bool, true, false, List, length, map, refl, sym, ◌∙◌, ap, arith, ⊎_elim, set, get_or}
 use borrow.Rule.Slice.PartMut.{put_mid}
 use Rattle.std.proofs.lemmas.List.{get_or-map, map-set, length-map, map-append, take-map, drop-map, length-replicate}
 use Rattle.std.proofs.lemmas.Slice.{put_mid-paste}

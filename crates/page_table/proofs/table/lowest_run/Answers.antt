@@ -1,8 +1,6 @@
-use Rattle.std.proofs.Common.{◌≡◌, ◌+◌, ◌<◌, ◌≤◌, length, Bool, true, false, sym, ◌∙◌, arith}
+use Rattle.std.proofs.Common.{◌<◌, length, arith}
 use Rattle.std.proofs.lemmas.List.{length-map}
-use Rattle.heap_terms.specs.Heap.{entry_at}
-use Rattle.heap_terms.specs.Regions.{is_free}
-use Rattle.page_table.specs.Unpacked.{unpacked, unpacked_all}
+use Rattle.page_table.specs.Unpacked.{unpacked_all}
 use Rattle.page_table.proofs.Runs.{searched_used, searched_free, searched_found, searched_all, free-unpacked}
 use Rattle.page_table.proofs.table.lowest_run.Goals as goal
 use Rattle.page_table.proofs.table.lowest_run.Goals.{then-not-is_free, else-not-is_free+else-p-start}
