@@ -158,8 +158,8 @@ built-kept p a t c kind n seed w l wish small h =
     let type_is : page_type_of (kind_of o.contents) ≡ page_type_of kind = ap (λ (x : Kind). page_type_of x) k in
     let size_is : words_of_object o ≡ size_of kind n = rw (k, m) refl in
     let same : pages_with a.pages o h.page h.fill ≡ set a.pages h.page (Used (page_type_of kind) 0 (h.fill + size_of kind n) h.page 1) =
-        ap (λ (ty : PageType). set a.pages h.page (Used ty 0 (h.fill + words_of_object o) h.page 1)) type_is
-        ∙ ap (λ (size : ℕ). set a.pages h.page (Used (page_type_of kind) 0 (h.fill + size) h.page 1)) size_is in
+    ap (λ (ty : PageType). set a.pages h.page (Used ty 0 (h.fill + words_of_object o) h.page 1)) type_is
+    ∙ ap (λ (size : ℕ). set a.pages h.page (Used (page_type_of kind) 0 (h.fill + size) h.page 1)) size_is in
     subst (λ (pages : List Entry). IsWellFormed p (heap_with a (a.objects ++ Some o ∷ []) a.threads pages)) same kept
 
 -- the commit of a small object

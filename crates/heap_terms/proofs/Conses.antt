@@ -48,15 +48,15 @@ cons_contents (TableOf w b pairs) e = cc
 
 pub AreConses-set : (objects : List (Option Object)) (name : ℕ) (o : Object) → AreConses objects → IsCons o → AreConses (set objects name (Some o))
 AreConses-set objects name o h cons = λ x. elim (set_cases objects name x (Some o) None) [
-      inl same ↦ rw same (h x)
-    | inr new ↦ rw new.2 cons
-    ]
+  | inl same ↦ rw same (h x)
+  | inr new ↦ rw new.2 cons
+]
 
 pub AreConses-push : (objects : List (Option Object)) (o : Object) → AreConses objects → IsCons o → AreConses (objects ++ Some o ∷ [])
 AreConses-push objects o h cons = λ x. elim (push_cases objects x (Some o) None) [
-      inl same ↦ rw same.1 (h x)
-    | inr new ↦ rw new.1 cons
-    ]
+  | inl same ↦ rw same.1 (h x)
+  | inr new ↦ rw new.1 cons
+]
 
 -- a command that allocates nothing leaves conses
 pub effect-conses : (a : NamedHeap) (t : ℕ) (c : Command) → AreConses a.objects → AreConses (effect_of a t c).objects
@@ -64,8 +64,8 @@ effect-conses a t c h = by_effect a t c (λ b. AreConses b.objects) h
     (λ d n e. rw (with_cell-objects a t d (values.Fix n)) h)
     (λ d x i vs e f l. rw (with_cell-objects a t d _) h)
     (λ x i b vs e f l.
-      let parts = fields_named a.objects (cell_value a t x) vs f in
-      put (cell_value a t x) (cell_value a t b) i parts.0 parts.1 parts.2 parts.3)
+    let parts = fields_named a.objects (cell_value a t x) vs f in
+    put (cell_value a t x) (cell_value a t b) i parts.0 parts.1 parts.2 parts.3)
   where
     put : (at v : Value) (i name : ℕ) (o : Object) → at ≡ values.Ref name → object_at a.objects name ≡ Some o → AreConses (with_field_at a.objects at i v)
     put at v i name o is e =
@@ -82,11 +82,11 @@ after-conses p valid a e next w h = by_events p a (λ e b. AreConses b.objects)
     (λ t c answer d. effect-conses a t c h)
     (λ t c answer d. h)
     (λ t c answer kind n seed d.
-      let page = builds_page p a t c kind n seed valid w d.command d.wish d.room in
-      let built = built_heap p a t c kind n valid.auto page.0 page.1 in
-      let o = new_object a t c (page_words * page.1.page + page.1.fill) in
-      let cons : IsCons o = initial_kind a t c kind n seed d.wish ∙ (only_cons_built p t (thread_at a t).done c kind n seed valid d.command d.wish).0 in
-      rw built.objects (AreConses-push a.objects o h cons))
+    let page = builds_page p a t c kind n seed valid w d.command d.wish d.room in
+    let built = built_heap p a t c kind n valid.auto page.0 page.1 in
+    let o = new_object a t c (page_words * page.1.page + page.1.fill) in
+    let cons : IsCons o = initial_kind a t c kind n seed d.wish ∙ (only_cons_built p t (thread_at a t).done c kind n seed valid d.command d.wish).0 in
+    rw built.objects (AreConses-push a.objects o h cons))
     (λ t ty first k d. rw (opened-objects a t ty first k) h)
     (λ t d. h)
     e next

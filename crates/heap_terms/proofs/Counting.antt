@@ -39,11 +39,11 @@ start_thread_is p t l = get_or-map (λ _. fresh_thread) p.threads t [] (ended_th
 pub start_done : (p : Program) (t : ℕ) → (thread_at (start p) t).done ≡ 0
 unfolding start
 start_done p t = elim (cases_lt t (length p.threads)) [
-      inl l ↦ ap (λ (th : Thread). th.done) (get_or-map (λ _. fresh_thread) p.threads t [] (ended_thread fresh_thread) l)
-    | inr l ↦ (
-        let past : length (map (λ _. fresh_thread) p.threads) ≤ t = omega (arith, length-map p.threads (λ _. fresh_thread)) in
-        ap (λ (th : Thread). th.done) (get_or_past (map (λ _. fresh_thread) p.threads) t (ended_thread fresh_thread) past))
-    ]
+  | inl l ↦ ap (λ (th : Thread). th.done) (get_or-map (λ _. fresh_thread) p.threads t [] (ended_thread fresh_thread) l)
+  | inr l ↦ (
+      let past : length (map (λ _. fresh_thread) p.threads) ≤ t = omega (arith, length-map p.threads (λ _. fresh_thread)) in
+      ap (λ (th : Thread). th.done) (get_or_past (map (λ _. fresh_thread) p.threads) t (ended_thread fresh_thread) past))
+]
 
 -- A well-formed heap whose threads have done no more than their scripts, and whose ended threads no less, and
 -- which has no more objects than commands were done.
@@ -70,25 +70,25 @@ pub moved-counted : (p : Program) (a b : NamedHeap) (t n : ℕ) (ends : Bool) �
 moved-counted p a b t n ends h w l one m = record {
   formed = w;
   within = λ u. elim (cases_eq u t) [
-        inl same ↦ subst (λ (x : ℕ). (thread_at b x).done ≤ length (script_of p x)) (sym same)
-          (let done = m.done in let before = h.within t in elim (cases_lt 0 n) [
-            inl some ↦ (let below = m.within some in omega arith)
+    | inl same ↦ subst (λ (x : ℕ). (thread_at b x).done ≤ length (script_of p x)) (sym same)
+        (let done = m.done in let before = h.within t in elim (cases_lt 0 n) [
+          | inl some ↦ (let below = m.within some in omega arith)
           | inr none ↦ omega arith
-          ])
-      | inr other ↦ rw (m.others u other).done (h.within u)
-      ];
+        ])
+    | inr other ↦ rw (m.others u other).done (h.within u)
+  ];
   over = λ u lu e. elim (cases_eq u t) [
-        inl same ↦ subst (λ (x : ℕ). length (script_of p x) ≤ (thread_at b x).done) (sym same)
-          (let done = m.done in
-          let ended : (thread_at b t).ended ≡ true = subst (λ (x : ℕ). (thread_at b x).ended ≡ true) same e in
-          let over = m.over (sym m.ended ∙ ended) in omega arith)
-      | inr other ↦ rw (m.others u other).done (h.over u lu (sym (m.others u other).ended ∙ e))
-      ];
+    | inl same ↦ subst (λ (x : ℕ). length (script_of p x) ≤ (thread_at b x).done) (sym same)
+        (let done = m.done in
+        let ended : (thread_at b t).ended ≡ true = subst (λ (x : ℕ). (thread_at b x).ended ≡ true) same e in
+        let over = m.over (sym m.ended ∙ ended) in omega arith)
+    | inr other ↦ rw (m.others u other).done (h.over u lu (sym (m.others u other).ended ∙ e))
+  ];
   few = (
       let f : ℕ → ℕ = λ u. (thread_at a u).done in
       let g : ℕ → ℕ = λ u. (thread_at b u).done in
       let change : sum_by g (range_with_len 0 (length p.threads)) + f t ≡ sum_by f (range_with_len 0 (length p.threads)) + g t =
-          sum_change f g t 0 (length p.threads) (omega arith) (omega arith) (λ u other. (m.others u other).done) in
+      sum_change f g t 0 (length p.threads) (omega arith) (omega arith) (λ u other. (m.others u other).done) in
       let done = m.done in
       let objects = m.objects in
       let few = h.few in
@@ -122,7 +122,7 @@ counted_few p a valid h =
     let few = h.few in
     let scripts = sum_places (λ (cs : List Command). length cs) p.threads [] in
     let all : sum_by (λ t. (thread_at a t).done) (range_with_len 0 (length p.threads)) ≤ sum_by (λ t. length (get_or p.threads t [])) (range_with_len 0 (length p.threads)) =
-        sum_le (λ t. (thread_at a t).done) (λ t. length (get_or p.threads t [])) 0 (length p.threads) (λ u low high. h.within u) in
+    sum_le (λ t. (thread_at a t).done) (λ t. length (get_or p.threads t [])) 0 (length p.threads) (λ u low high. h.within u) in
     omega arith
 
 pub commits_few : (p : Program) (h : List Event) → IsValid p → Lawful p h → length (replay p h).objects ≤ 20000

@@ -42,7 +42,7 @@ pub built_heap : (p : Program) (a : NamedHeap) (t : ℕ) (c : Command) (kind : K
     (h : HasPage a t (page_type_of kind) (size_of kind n)) → IsBuilt a (committed p a t c kind n) t c kind n h.page h.fill
 built_heap p a t c kind n auto small h =
     let b = heap_with a (a.objects ++ Some (new_object a t c (page_words * h.page + h.fill)) ∷ []) a.threads
-        (set a.pages h.page (Used (page_type_of kind) 0 (h.fill + size_of kind n) h.page 1)) in
+    (set a.pages h.page (Used (page_type_of kind) 0 (h.fill + size_of kind n) h.page 1)) in
     let board = with_cell-board b t (destination_of c) (values.Ref (length a.objects)) in
     let built : IsBuilt a (with_cell b t (destination_of c) (values.Ref (length a.objects))) t c kind n h.page h.fill = record {
       tasks = board.tasks;
@@ -103,9 +103,9 @@ advance-moved p a x t c alive command tasks threads objects =
 
 pub no_command : (p : Program) (a : NamedHeap) (t : ℕ) → command_at p a t ≡ None → length (script_of p t) ≤ (thread_at a t).done
 no_command p a t e = elim (cases_lt (thread_at a t).done (length (script_of p t))) [
-      inr h ↦ h
-    | inl h ↦ go (script_of p t) (thread_at a t).done h e
-    ]
+  | inr h ↦ h
+  | inl h ↦ go (script_of p t) (thread_at a t).done h e
+]
   where
     go : (cs : List Command) (i : ℕ) → i < length cs → slice_get cs i ≡ None → length cs ≤ i
     go [] i l e = absurd (omega arith)
@@ -134,14 +134,14 @@ pub moves : (p : Program) (a : NamedHeap) (e : Event) → IsValid p → IsWellFo
     HasMoved p a (after p a e) (thread_of e) (commands_in e) (is_end e)
 moves p a e valid w next = by_events p a (λ e b. HasMoved p a b (thread_of e) (commands_in e) (is_end e))
     (λ t c answer d. let board = effect-board a t c in
-      advance-moved p a (effect_of a t c) t c d.alive d.command board.tasks board.threads (let same = board.objects in omega arith))
+    advance-moved p a (effect_of a t c) t c d.alive d.command board.tasks board.threads (let same = board.objects in omega arith))
     (λ t c answer d. advance-moved p a a t c d.alive d.command (λ u. same_task (thread_at a u)) refl (omega arith))
     (λ t c answer kind n seed d.
-      let page = builds_page p a t c kind n seed valid w d.command d.wish d.room in
-      let built = built_heap p a t c kind n valid.auto page.0 page.1 in
-      advance-moved p a (committed p a t c kind n) t c d.alive d.command built.tasks built.threads
-      (let o = new_object a t c (page_words * page.1.page + page.1.fill) in
-      omega (arith, ap length built.objects, length_push a.objects (Some o))))
+    let page = builds_page p a t c kind n seed valid w d.command d.wish d.room in
+    let built = built_heap p a t c kind n valid.auto page.0 page.1 in
+    advance-moved p a (committed p a t c kind n) t c d.alive d.command built.tasks built.threads
+    (let o = new_object a t c (page_words * page.1.page + page.1.fill) in
+    omega (arith, ap length built.objects, length_push a.objects (Some o))))
     (λ t ty first k d. opened-moved p a t ty first k d.alive)
     (λ t d. record {
       alive = d.alive;

@@ -16,9 +16,9 @@ use Rattle.heap_terms.specs.Valid.{IsValid, IsCommand, name_of, is_built}
 -- a place in a script that has a command belongs to a thread
 pub script_thread : (p : Program) (t i : ℕ) (c : Command) → slice_get (script_of p t) i ≡ Some c → t < length p.threads
 script_thread p t i c e = elim (cases_lt t (length p.threads)) [
-      inl h ↦ h
-    | inr h ↦ absurd (none-some c (rw (get_or_past p.threads t [] h) at e))
-    ]
+  | inl h ↦ h
+  | inr h ↦ absurd (none-some c (rw (get_or_past p.threads t [] h) at e))
+]
 
 -- and lies below the script's end
 pub script_place : (p : Program) (t i : ℕ) (c : Command) → slice_get (script_of p t) i ≡ Some c → i < length (script_of p t)
@@ -70,6 +70,6 @@ script_wish p t i c valid e = built_wish c (script_built p t i c valid e)
 pub only_cons_built : (p : Program) (t i : ℕ) (c : Command) (kind : Kind) (n seed : ℕ) → IsValid p →
     slice_get (script_of p t) i ≡ Some c → wish_of c ≡ Make kind n seed → (kind ≡ kinds.Cons) × (n ≡ 2) × (seed ≡ 0)
 only_cons_built p t i c kind n seed valid e w = elim (script_wish p t i c valid e) [
-      inl h ↦ cc
-    | inr h ↦ (cc, cc, cc)
-    ]
+  | inl h ↦ cc
+  | inr h ↦ (cc, cc, cc)
+]

@@ -37,12 +37,12 @@ pub effect-kept : (p : Program) (a : NamedHeap) (t : ℕ) (c : Command) → IsWe
 effect-kept p a t c w l command = by_effect a t c (λ b. IsWellFormed p b) w
     (λ d n e. with_cell-kept p a t d (values.Fix n) w (subst (λ (x : Command). IsCommand x) e command).in_range.1)
     (λ d x i vs e f below.
-      let parts = fields_named a.objects (cell_value a t x) vs f in
-      let holds = IfSome-at (λ o. HoldsLiving a.objects o.contents) (object_at a.objects parts.0) parts.1 parts.3 (w.contents parts.0) in
-      with_cell-kept p a t d _ w (fields_living a.objects parts.1.contents vs parts.4 holds i))
+    let parts = fields_named a.objects (cell_value a t x) vs f in
+    let holds = IfSome-at (λ o. HoldsLiving a.objects o.contents) (object_at a.objects parts.0) parts.1 parts.3 (w.contents parts.0) in
+    with_cell-kept p a t d _ w (fields_living a.objects parts.1.contents vs parts.4 holds i))
     (λ x i b vs e f below.
-      let parts = fields_named a.objects (cell_value a t x) vs f in
-      put-kept p a (cell_value a t x) (cell_value a t b) i w parts.0 parts.1 parts.2 parts.3 (cell_living p a t b w l))
+    let parts = fields_named a.objects (cell_value a t x) vs f in
+    put-kept p a (cell_value a t x) (cell_value a t b) i w parts.0 parts.1 parts.2 parts.3 (cell_living p a t b w l))
 
 -- a valid program wishes for conses alone, which are small
 pub wish_small : (p : Program) (t i : ℕ) (c : Command) (kind : Kind) (n seed : ℕ) → IsValid p → slice_get (script_of p t) i ≡ Some c →
@@ -54,11 +54,11 @@ wish_small p t i c kind n seed valid at wish =
 pub after-well_formed : (p : Program) → IsValid p → (a : NamedHeap) (e : Event) → IsNext p a e → IsWellFormed p a → IsWellFormed p (after p a e)
 after-well_formed p valid a e next w = by_events p a (λ e b. IsWellFormed p b)
     (λ t c answer d. advance-kept p (effect_of a t c) t
-      (effect-kept p a t c w (script_thread p t (thread_at a t).done c d.command) (script_command p t (thread_at a t).done c valid d.command)))
+    (effect-kept p a t c w (script_thread p t (thread_at a t).done c d.command) (script_command p t (thread_at a t).done c valid d.command)))
     (λ t c answer d. advance-kept p a t w)
     (λ t c answer kind n seed d. advance-kept p (committed p a t c kind n) t
-      (committed-kept p a t c kind n seed w valid.auto (script_thread p t (thread_at a t).done c d.command) d.wish
-      (wish_small p t (thread_at a t).done c kind n seed valid d.command d.wish) d.room))
+    (committed-kept p a t c kind n seed w valid.auto (script_thread p t (thread_at a t).done c d.command) d.wish
+    (wish_small p t (thread_at a t).done c kind n seed valid d.command d.wish) d.room))
     (λ t ty first k d. opened-kept p a t ty first k w d.lowest.run (rw d.count_is (needs_least (size_of d.kind d.n))))
     (λ t d. ended-kept p a t w)
     e next

@@ -53,9 +53,9 @@ needs_enough size e = rw (large_needs size e) (omega arith)
 
 pub needs_least : (size : ℕ) → 1 ≤ pages_needed size
 needs_least size = elim (cases_Bool (is_small size)) [
-      inl e ↦ omega (arith, small_needs size e)
-    | inr e ↦ omega (arith, needs_two size e)
-    ]
+  | inl e ↦ omega (arith, small_needs size e)
+  | inr e ↦ omega (arith, needs_two size e)
+]
 
 -- An entry stays while its page is filled further: a used page stays one of its type, its generation and its
 -- run, its fill does not fall, and it does not change on a page of a run of two or more.
@@ -80,10 +80,14 @@ pub IsPageOfRun-stays : (o : Object) (i : ℕ) (old new : Entry) → EntryStays 
 IsPageOfRun-stays o i Free new s long h = absurd h
 IsPageOfRun-stays o i (Used ty g fill first n) Free s long h = absurd s
 IsPageOfRun-stays o i (Used ty g fill first n) (Used ty' g' fill' first' n') s long h =
-    let same : fill' ≡ fill = s.5 (λ one. long (sym h.3 ∙ one)) in
-    (s.0 ∙ h.0, s.1 ∙ h.1, s.2 ∙ h.2, s.3 ∙ h.3,
-    (λ l. same ∙ h.4 (rw (← s.3) l)),
-    (λ l. rw same (h.5 (l ∙ s.3))))
+    let same : fill' ≡ fill = s.5 (λ one. long (sym h.3 ∙ one)) in (
+      s.0 ∙ h.0,
+      s.1 ∙ h.1,
+      s.2 ∙ h.2,
+      s.3 ∙ h.3,
+      (λ l. same ∙ h.4 (rw (← s.3) l)),
+      (λ l. rw same (h.5 (l ∙ s.3))),
+    )
 
 pub IsOpenPage-stays : (ty : PageType) (page : ℕ) (old new : Entry) → EntryStays old new → IsOpenPage ty page old → IsOpenPage ty page new
 IsOpenPage-stays ty page Free new s h = absurd h

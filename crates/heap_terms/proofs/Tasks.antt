@@ -69,9 +69,9 @@ exact-task th vs = record { done = refl; owed = refl; inhibits = refl; ended = r
 pub with_thread-board : (a : NamedHeap) (t : ℕ) (th : Thread) → IsSameTask (thread_at a t) th → IsSameBoard a (with_thread a t th)
 with_thread-board a t th same = record {
   tasks = λ u. elim (thread_cases a t u th) [
-        inl e ↦ rw e (same_task (thread_at a u))
-      | inr e ↦ rw (e.2, e.0) same
-      ];
+    | inl e ↦ rw e (same_task (thread_at a u))
+    | inr e ↦ rw (e.2, e.0) same
+  ];
   pages = refl;
   objects = refl;
   threads = length-set a.threads t th;
@@ -134,6 +134,6 @@ never_collects_command a t (Some c) last e = never_collects_for a t (wish_of c) 
 
 pub never_collects : (p : Program) (a : NamedHeap) (t last : ℕ) → IsWellFormed p a → next p a t ≡ nexts.Collect last → ⊥
 never_collects p a t last w e = elim (cases_Bool (thread_at a t).ended) [
-      inl ended ↦ (let never : nexts.Done ≡ nexts.Collect last = sym (next_ended p a t ended) ∙ e in cc)
-    | inr alive ↦ never_collects_command a t (command_at p a t) last (sym (next_alive p a t (w.owes_nothing t) alive) ∙ e)
-    ]
+  | inl ended ↦ (let never : nexts.Done ≡ nexts.Collect last = sym (next_ended p a t ended) ∙ e in cc)
+  | inr alive ↦ never_collects_command a t (command_at p a t) last (sym (next_alive p a t (w.owes_nothing t) alive) ∙ e)
+]

@@ -10,3 +10,4 @@ pub mod Histories
 pub mod Complete
 pub mod Text
 pub mod WellFormed
+pub mod Laws

@@ -1,0 +1,30 @@
+-- Laws of the definitions, each for every program: what a reader may rely on beside the definitions themselves.
+use Rattle.std.specs.Prelude.{◌≡◌, ℕ, ◌≤◌, List, [], ◌∷◌, ◌++◌, length, IfSome}
+use Rattle.heap_terms.specs.declared.events.Event.{Event}
+use Rattle.heap_terms.specs.declared.kinds.Kind.TheVariants as kinds
+use Rattle.heap_terms.specs.declared.pages.Next.TheVariants as nexts
+use Rattle.heap_terms.specs.declared.programs.Program.{Program}
+use Rattle.heap_terms.specs.Heap.{NamedHeap, object_at}
+use Rattle.heap_terms.specs.Histories.{IsNext, after, next, Lawful, replay}
+use Rattle.heap_terms.specs.Objects.{Object, kind_of}
+use Rattle.heap_terms.specs.Valid.{IsValid}
+use Rattle.heap_terms.specs.WellFormed.{IsWellFormed}
+
+-- a lawful history and an event that may come next make a lawful history, whose heap is the one after the event
+abbrev pub HistoriesGrow : Type 0
+HistoriesGrow = (p : Program) (h : List Event) (e : Event) → Lawful p h → IsNext p (replay p h) e →
+    Lawful p (h ++ e ∷ []) × (replay p (h ++ e ∷ []) ≡ after p (replay p h) e)
+
+-- every lawful history of a valid program leaves a well-formed heap
+abbrev pub HeapsAreWellFormed : Type 0
+HeapsAreWellFormed = (p : Program) (h : List Event) → IsValid p → Lawful p h → IsWellFormed p (replay p h)
+
+-- of at most 20,000 objects, all of them conses until more kinds are built
+abbrev pub HeapsAreSmall : Type 0
+HeapsAreSmall = (p : Program) (h : List Event) → IsValid p → Lawful p h →
+    (length (replay p h).objects ≤ 20000)
+    × ((name : ℕ) → IfSome (object_at (replay p h).objects name) (λ o. kind_of o.contents ≡ kinds.Cons))
+
+-- no thread collects until collections are built
+abbrev pub NobodyCollects : Type 0
+NobodyCollects = (p : Program) (h : List Event) (t last : ℕ) → IsValid p → Lawful p h → ¬ (next p (replay p h) t ≡ nexts.Collect last)

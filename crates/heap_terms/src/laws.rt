@@ -1,0 +1,26 @@
+//! Theorems about the definitions of `specs/`. Each is the contract of a function that does
+//! nothing: that it is accepted says that the law holds, of every program and every history.
+
+ghost use Rattle.heap_terms.specs.Laws.{HistoriesGrow, HeapsAreWellFormed, HeapsAreSmall, NobodyCollects};
+
+/// An event that may come next makes a lawful history one longer, and the heap at its end is the
+/// one after that event.
+pub fn histories_grow()
+    ensures { HistoriesGrow }
+{}
+
+/// Every lawful history of a valid program leaves a well-formed heap: values refer to objects that
+/// are there, objects lie apart below the fills of their pages, and no two threads share a page.
+pub fn heaps_are_well_formed()
+    ensures { HeapsAreWellFormed }
+{}
+
+/// A heap has at most 20,000 objects, one for each command; for now all are conses.
+pub fn heaps_are_small()
+    ensures { HeapsAreSmall }
+{}
+
+/// For now no thread of a valid program owes a collection.
+pub fn nobody_collects()
+    ensures { NobodyCollects }
+{}
