@@ -16,3 +16,4 @@ pub mod Sums
 pub mod Moving
 pub mod Counting
 pub mod Conses
+pub mod Others

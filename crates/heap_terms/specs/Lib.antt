@@ -10,4 +10,5 @@ pub mod Histories
 pub mod Complete
 pub mod Text
 pub mod WellFormed
+pub mod Left
 pub mod Laws
