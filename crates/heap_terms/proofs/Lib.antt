@@ -17,3 +17,5 @@ pub mod Moving
 pub mod Counting
 pub mod Conses
 pub mod Others
+pub mod Falling
+pub mod Going

@@ -43,3 +43,10 @@ sum_places f xs d =
     ∙ ap sum (fill_by_all (λ t. f (get_or xs t d)) (map f xs) (length xs) 0 (length-map xs f)
     (λ k l. get_or-map f xs k d 0 (omega (arith, length-map xs f))))
     ∙ sum-map (λ t. f (get_or xs t d)) (range_with_len 0 (length xs))
+
+-- a sum of two and twice each part
+pub sum_double : (f : ℕ → ℕ) (a n : ℕ) → sum_by (λ t. 2 + 2 * f t) (range_with_len a n) ≡ 2 * n + 2 * sum_by f (range_with_len a n)
+sum_double f a zero = refl
+sum_double f a (suc n) =
+    let rest = sum_double f (a + 1) n in
+    omega (arith, sum_by-cons f a (range_with_len (a + 1) n), sum_by-cons (λ t. 2 + 2 * f t) a (range_with_len (a + 1) n))
