@@ -52,9 +52,9 @@ left_ended p a t ended = rw ended refl
 -- a thread has no more left than for a region at each command
 pub left_most : (p : Program) (a : NamedHeap) (t : ℕ) → left p a t ≤ 2 + 2 * length (script_of p t)
 left_most p a t = elim (cases_Bool (thread_at a t).ended) [
-      inl ended ↦ omega (arith, left_ended p a t ended)
-    | inr alive ↦ omega (arith, left_alive p a t alive, opens_next_most (next p a t))
-    ]
+  | inl ended ↦ omega (arith, left_ended p a t ended)
+  | inr alive ↦ omega (arith, left_alive p a t alive, opens_next_most (next p a t))
+]
 
 -- another thread has as much left as before
 pub left_others : (p : Program) (a : NamedHeap) (e : Event) → IsValid p → IsWellFormed p a → IsNext p a e → (u : ℕ) → u ≢ thread_of e →
@@ -80,26 +80,28 @@ opened_room pages th kind size first run =
     let least = needs_least size in
     let entry : entry_at (with_run pages first k ty) first ≡ Used ty 0 0 first k = run_entry pages first k ty first run.inside (omega arith) (omega arith) in
     elim (cases_Bool (is_small size)) [
-      inl small ↦ (
-        let one : (k == 1) ≡ true = eq-eqb k 1 (small_needs size small) in
-        let there : open_page (thread_with_run th ty first k) ty ≡ Some first = ap (λ (b : Bool). open_page (if b then with_open_page th ty first else record th { open_run = Some first }) ty) one ∙ opened_there th ty first in
-        let room : page_has_room (with_run pages first k ty) (Some first) size ≡ true =
-            ap (λ (e : Entry). entry_has_room e size) entry ∙ le-leb (0 + size) page_words (let most = small_most size small in omega arith) in
-        choose (is_small size) _ _ small (ap (λ (o : Option ℕ). page_has_room (with_run pages first k ty) o size) there ∙ room))
-    | inr large ↦ (
-        let more : (k == 1) ≡ false = ne_eqb k 1 (λ one. omega (arith, needs_two size large)) in
-        let there : (thread_with_run th ty first k).open_run ≡ Some first = ap (λ (b : Bool). (if b then with_open_page th ty first else record th { open_run = Some first }).open_run) more in
-        let room : run_has_room (with_run pages first k ty) (Some first) size ≡ true =
-            ap (λ (e : Entry). entry_is_run e k) entry ∙ eq-eqb k k refl in
-        choose_other (is_small size) _ _ large (ap (λ (o : Option ℕ). run_has_room (with_run pages first k ty) o size) there ∙ room))
+      | inl small ↦ (
+          let one : (k == 1) ≡ true = eq-eqb k 1 (small_needs size small) in
+          let there : open_page (thread_with_run th ty first k) ty ≡ Some first = ap (λ (b : Bool). open_page (if b then with_open_page th ty first else record th { open_run = Some first }) ty) one ∙ opened_there th ty first in
+          let room : page_has_room (with_run pages first k ty) (Some first) size ≡ true =
+          ap (λ (e : Entry). entry_has_room e size) entry ∙ le-leb (0 + size) page_words (let most = small_most size small in omega arith) in
+          choose (is_small size) _ _ small (ap (λ (o : Option ℕ). page_has_room (with_run pages first k ty) o size) there ∙ room))
+      | inr large ↦ (
+          let more : (k == 1) ≡ false = ne_eqb k 1 (λ one. omega (arith, needs_two size large)) in
+          let there : (thread_with_run th ty first k).open_run ≡ Some first = ap (λ (b : Bool). (if b then with_open_page th ty first else record th { open_run = Some first }).open_run) more in
+          let room : run_has_room (with_run pages first k ty) (Some first) size ≡ true =
+          ap (λ (e : Entry). entry_is_run e k) entry ∙ eq-eqb k k refl in
+          choose_other (is_small size) _ _ large (ap (λ (o : Option ℕ). run_has_room (with_run pages first k ty) o size) there ∙ room))
     ]
   where
     opened_there : (th : Thread) (ty : PageType) (first : ℕ) → open_page (with_open_page th ty first) ty ≡ Some first
     opened_there th types.Cons first = refl
     opened_there th types.Boxed first = refl
     opened_there th types.Unboxed first = refl
+
     choose : (b x y : Bool) → b ≡ true → x ≡ true → (if b then x else y) ≡ true
     choose b x y e h = rw e h
+
     choose_other : (b x y : Bool) → b ≡ false → y ≡ true → (if b then x else y) ≡ true
     choose_other b x y e h = rw e h
 
@@ -179,7 +181,7 @@ all_left_falls p a e valid w next_is =
     let t = thread_of e in
     let l = event_thread p a e valid w next_is in
     let change : sum_by (left p b) (range_with_len 0 (length p.threads)) + left p a t ≡ sum_by (left p a) (range_with_len 0 (length p.threads)) + left p b t =
-        sum_change (left p a) (left p b) t 0 (length p.threads) (omega arith) (omega arith) (λ u other. left_others p a e valid w next_is u other) in
+    sum_change (left p a) (left p b) t 0 (length p.threads) (omega arith) (omega arith) (λ u other. left_others p a e valid w next_is u other) in
     let falls = left_falls p a e valid w next_is in
     omega arith
 

@@ -29,45 +29,45 @@ pub free_or_not : (pages : List Entry) (first k : ℕ) →
     ((i : ℕ) → first ≤ i → i < first + k → is_free (entry_at pages i) ≡ true) ⊎ ((i : ℕ) × (first ≤ i) × (i < first + k) × (is_free (entry_at pages i) ≡ false))
 free_or_not pages first zero = inl (λ i low high. absurd (omega arith))
 free_or_not pages first (suc k) = elim (free_or_not pages first k) [
-      inr taken ↦ inr (taken.0, taken.1, (let l = taken.2 in omega arith), taken.3)
-    | inl free ↦ elim (cases_Bool (is_free (entry_at pages (first + k)))) [
-          inr taken ↦ inr (first + k, omega arith, omega arith, taken)
-        | inl last ↦ inl (λ i low high. elim (cases_eq i (first + k)) [
-              inl same ↦ subst (λ (x : ℕ). is_free (entry_at pages x) ≡ true) (sym same) last
-            | inr other ↦ free i low (omega arith)
-            ])
-        ]
-    ]
+  | inr taken ↦ inr (taken.0, taken.1, (let l = taken.2 in omega arith), taken.3)
+  | inl free ↦ elim (cases_Bool (is_free (entry_at pages (first + k)))) [
+    | inr taken ↦ inr (first + k, omega arith, omega arith, taken)
+    | inl last ↦ inl (λ i low high. elim (cases_eq i (first + k)) [
+      | inl same ↦ subst (λ (x : ℕ). is_free (entry_at pages x) ≡ true) (sym same) last
+      | inr other ↦ free i low (omega arith)
+    ])
+  ]
+]
 
 pub run_or_not : (pages : List Entry) (first k : ℕ) → IsRun pages first k ⊎ ¬ IsRun pages first k
 run_or_not pages first k = elim (cases_lt (length pages) (first + k)) [
-      inl past ↦ inr (λ run. let inside = run.inside in omega arith)
-    | inr inside ↦ elim (free_or_not pages first k) [
-          inl free ↦ inl (record { inside = inside; free = free })
-        | inr taken ↦ inr (λ run. false≢true (sym taken.3 ∙ run.free taken.0 taken.1 taken.2))
-        ]
-    ]
+  | inl past ↦ inr (λ run. let inside = run.inside in omega arith)
+  | inr inside ↦ elim (free_or_not pages first k) [
+    | inl free ↦ inl (record { inside = inside; free = free })
+    | inr taken ↦ inr (λ run. false≢true (sym taken.3 ∙ run.free taken.0 taken.1 taken.2))
+  ]
+]
 
 -- the lowest run, or none below n
 pub lowest_below : (pages : List Entry) (k n : ℕ) → ((first : ℕ) × IsLowestRun pages first k) ⊎ ((lower : ℕ) → lower < n → ¬ IsRun pages lower k)
 lowest_below pages k zero = inr (λ lower l run. absurd (omega arith))
 lowest_below pages k (suc n) = elim (lowest_below pages k n) [
-      inl found ↦ inl found
-    | inr none ↦ elim (run_or_not pages n k) [
-          inl run ↦ inl (n, record { run = run; lowest = none })
-        | inr here ↦ inr (λ lower l run. elim (cases_eq lower n) [
-              inl same ↦ here (subst (λ (x : ℕ). IsRun pages x k) same run)
-            | inr other ↦ none lower (omega arith) run
-            ])
-        ]
-    ]
+  | inl found ↦ inl found
+  | inr none ↦ elim (run_or_not pages n k) [
+    | inl run ↦ inl (n, record { run = run; lowest = none })
+    | inr here ↦ inr (λ lower l run. elim (cases_eq lower n) [
+      | inl same ↦ here (subst (λ (x : ℕ). IsRun pages x k) same run)
+      | inr other ↦ none lower (omega arith) run
+    ])
+  ]
+]
 
 -- there is a lowest run, or none
 pub lowest_or_none : (pages : List Entry) (k : ℕ) → ((first : ℕ) × IsLowestRun pages first k) ⊎ HasNoRun pages k
 lowest_or_none pages k = elim (lowest_below pages k (length pages + 1)) [
-      inl found ↦ inl found
-    | inr none ↦ inr (λ first run. let inside = run.inside in none first (omega arith) run)
-    ]
+  | inl found ↦ inl found
+  | inr none ↦ inr (λ first run. let inside = run.inside in none first (omega arith) run)
+]
 
 -- a built command that allocates nothing has an answer
 pub simple_answer : (a : NamedHeap) (t : ℕ) (c : Command) → IsBuilt c → wish_of c ≡ Nothing → (answer : Answer) × (answer_of a t c ≡ Some answer)
@@ -105,19 +105,25 @@ wish_next p a t c Nothing built command wish is =
     let answer = simple_answer a t c built wish in
     (Did t c answer.0, refl, did_next p a t c answer.0 nexts.Simple command is answer.1)
 wish_next p a t c (Make kind n seed) built command wish is = elim (cases_Bool (has_room a t kind (size_of kind n))) [
-      inl room ↦ (
-        let builds : next p a t ≡ nexts.Build kind n seed = is ∙ ap (λ (b : Bool). if b then nexts.Build kind n seed else nexts.Open) room in
-        let answer = answers.Placed (length a.objects) (place_for a t kind (size_of kind n)) in
-        (Did t c answer, refl, did_next p a t c answer (nexts.Build kind n seed) command builds refl))
-    | inr full ↦ (
-        let opens : next p a t ≡ nexts.Open = is ∙ ap (λ (b : Bool). if b then nexts.Build kind n seed else nexts.Open) full in
-        elim (lowest_or_none a.pages (pages_needed (size_of kind n))) [
-          inl found ↦ (Opened t (page_type_of kind) found.0 (pages_needed (size_of kind n)), refl,
-            opened_next p a t c kind n seed found.0 command opens wish found.1)
-        | inr none ↦ (Did t c (answers.Refused Exhausted), refl,
-            did_next p a t c (answers.Refused Exhausted) nexts.Open command opens (refl, rw wish none))
-        ])
-    ]
+  | inl room ↦ (
+      let builds : next p a t ≡ nexts.Build kind n seed = is ∙ ap (λ (b : Bool). if b then nexts.Build kind n seed else nexts.Open) room in
+      let answer = answers.Placed (length a.objects) (place_for a t kind (size_of kind n)) in
+      (Did t c answer, refl, did_next p a t c answer (nexts.Build kind n seed) command builds refl))
+  | inr full ↦ (
+      let opens : next p a t ≡ nexts.Open = is ∙ ap (λ (b : Bool). if b then nexts.Build kind n seed else nexts.Open) full in
+      elim (lowest_or_none a.pages (pages_needed (size_of kind n))) [
+        | inl found ↦ (
+          Opened t (page_type_of kind) found.0 (pages_needed (size_of kind n)),
+          refl,
+          opened_next p a t c kind n seed found.0 command opens wish found.1,
+        )
+        | inr none ↦ (
+          Did t c (answers.Refused Exhausted),
+          refl,
+          did_next p a t c (answers.Refused Exhausted) nexts.Open command opens (refl, rw wish none),
+        )
+      ])
+]
 
 pub command_next : (p : Program) (a : NamedHeap) (t : ℕ) (o : Option Command) → IsValid p → command_at p a t ≡ o → next p a t ≡ next_command a t o → HasNext p a t
 command_next p a t None valid command is = (Ended t, refl, ended_next p a t is)

@@ -19,3 +19,4 @@ pub mod Conses
 pub mod Others
 pub mod Falling
 pub mod Going
+pub mod Completing

@@ -72,7 +72,7 @@ pub next_same : (p : Program) (a b : NamedHeap) (u : ℕ) → IsSameTask (thread
 unfolding next
 next_same p a b u task entries =
     let command : next_command b u (command_at p b u) ≡ next_command a u (command_at p a u) =
-        ap (λ (i : ℕ). next_command b u (slice_get (script_of p u) i)) task.done ∙ command_same a b u (command_at p a u) task entries in
+    ap (λ (i : ℕ). next_command b u (slice_get (script_of p u) i)) task.done ∙ command_same a b u (command_at p a u) task entries in
     go task.ended task.inhibits task.owed command
   where
     go : {e e' : Bool} {i i' : ℕ} {o o' : Option ℕ} {n n' : Next} → e' ≡ e → i' ≡ i → o' ≡ o → n' ≡ n →
@@ -84,13 +84,13 @@ pub opened_entries : (p : Program) (a : NamedHeap) (t : ℕ) (ty : PageType) (fi
 unfolding opened
 opened_entries p a t ty first k u w run = record {
   pages = λ other x e. elim (run_cases a.pages first k ty x run) [
-        inl same ↦ same
-      | inr taken ↦ absurd (rw taken.3 at (open_page_used p a u other x w e))
-      ];
+    | inl same ↦ same
+    | inr taken ↦ absurd (rw taken.3 at (open_page_used p a u other x w e))
+  ];
   run = λ x e. elim (run_cases a.pages first k ty x run) [
-        inl same ↦ same
-      | inr taken ↦ absurd (open_run_taken a.pages x (open_run_used p a u x w e) taken.3)
-      ];
+    | inl same ↦ same
+    | inr taken ↦ absurd (open_run_taken a.pages x (open_run_used p a u x w e) taken.3)
+  ];
 }
 
 -- every event leaves the entries of the other threads' regions
@@ -100,15 +100,15 @@ others_entries p a e valid w next = by_events p a (λ e b. (u : ℕ) → u ≢ t
     (λ t c answer d u other. same_pages_entries a (advance (effect_of a t c) t) u (effect-board a t c).pages)
     (λ t c answer d u other. same_pages_entries a (advance a t) u refl)
     (λ t c answer kind n seed d u other.
-      let page = builds_page p a t c kind n seed valid w d.command d.wish d.room in
-      let h = page.1 in
-      let built = built_heap p a t c kind n valid.auto page.0 h in
-      record {
-        pages = λ ty x e. rw built.pages (get_or-set_other a.pages h.page x _ Free
-            (λ same. other (w.own_pages u t ty (page_type_of kind) x e (h.open_is ∙ ap {B = Option ℕ} (λ (y : ℕ). Some y) (sym same))).0));
-        run = λ x e. rw built.pages (get_or-set_other a.pages h.page x _ Free
-            (λ same. no_run a.pages x (page_type_of kind) h.fill h.page (open_run_used p a u x w e) (ap (λ (y : ℕ). entry_at a.pages y) same ∙ h.entry)));
-      })
+    let page = builds_page p a t c kind n seed valid w d.command d.wish d.room in
+    let h = page.1 in
+    let built = built_heap p a t c kind n valid.auto page.0 h in
+    record {
+      pages = λ ty x e. rw built.pages (get_or-set_other a.pages h.page x _ Free
+          (λ same. other (w.own_pages u t ty (page_type_of kind) x e (h.open_is ∙ ap {B = Option ℕ} (λ (y : ℕ). Some y) (sym same))).0));
+      run = λ x e. rw built.pages (get_or-set_other a.pages h.page x _ Free
+          (λ same. no_run a.pages x (page_type_of kind) h.fill h.page (open_run_used p a u x w e) (ap (λ (y : ℕ). entry_at a.pages y) same ∙ h.entry)));
+    })
     (λ t ty first k d u other. opened_entries p a t ty first k u w d.lowest.run)
     (λ t d u other. same_pages_entries a (with_thread a t (ended_thread (thread_at a t))) u refl)
     e next

@@ -1,11 +1,13 @@
 -- Laws of the definitions, each for every program: what a reader may rely on beside the definitions themselves.
-use Rattle.std.specs.Prelude.{◌≡◌, ℕ, ◌≤◌, List, [], ◌∷◌, ◌++◌, length, IfSome}
+use Rattle.std.specs.Prelude.{◌≡◌, ℕ, ◌+◌, ◌≤◌, List, [], ◌∷◌, ◌++◌, length, IfSome, false}
 use Rattle.heap_terms.specs.declared.events.Event.{Event}
 use Rattle.heap_terms.specs.declared.kinds.Kind.TheVariants as kinds
 use Rattle.heap_terms.specs.declared.pages.Next.TheVariants as nexts
 use Rattle.heap_terms.specs.declared.programs.Program.{Program}
-use Rattle.heap_terms.specs.Heap.{NamedHeap, object_at}
-use Rattle.heap_terms.specs.Histories.{IsNext, after, next, Lawful, replay}
+use Rattle.heap_terms.specs.Complete.{IsComplete}
+use Rattle.heap_terms.specs.Heap.{NamedHeap, object_at, thread_at}
+use Rattle.heap_terms.specs.Histories.{IsNext, after, next, Lawful, replay, thread_of}
+use Rattle.heap_terms.specs.Left.{all_left}
 use Rattle.heap_terms.specs.Objects.{Object, kind_of}
 use Rattle.heap_terms.specs.Valid.{IsValid}
 use Rattle.heap_terms.specs.WellFormed.{IsWellFormed}
@@ -28,3 +30,19 @@ HeapsAreSmall = (p : Program) (h : List Event) → IsValid p → Lawful p h →
 -- no thread collects until collections are built
 abbrev pub NobodyCollects : Type 0
 NobodyCollects = (p : Program) (h : List Event) (t last : ℕ) → IsValid p → Lawful p h → ¬ (next p (replay p h) t ≡ nexts.Collect last)
+
+-- with each event there is less left, so that every history ends: it has at most 40,016 events
+abbrev pub HistoriesEnd : Type 0
+HistoriesEnd =
+    ((p : Program) (h : List Event) (e : Event) → IsValid p → Lawful p h → IsNext p (replay p h) e →
+    all_left p (after p (replay p h) e) + 1 ≤ all_left p (replay p h))
+    × ((p : Program) (h : List Event) → IsValid p → Lawful p h → length h ≤ 40016)
+
+-- a thread that has not ended has an event that may come next
+abbrev pub ThreadsGoOn : Type 0
+ThreadsGoOn = (p : Program) (h : List Event) (t : ℕ) → IsValid p → Lawful p h → (thread_at (replay p h) t).ended ≡ false →
+    (e : Event) × (thread_of e ≡ t) × IsNext p (replay p h) e
+
+-- so that every history is the beginning of a complete one
+abbrev pub HistoriesComplete : Type 0
+HistoriesComplete = (p : Program) (h : List Event) → IsValid p → Lawful p h → (more : List Event) × IsComplete p (h ++ more)

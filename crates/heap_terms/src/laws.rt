@@ -1,7 +1,7 @@
 //! Theorems about the definitions of `specs/`. Each is the contract of a function that does
 //! nothing: that it is accepted says that the law holds, of every program and every history.
 
-ghost use Rattle.heap_terms.specs.Laws.{HistoriesGrow, HeapsAreWellFormed, HeapsAreSmall, NobodyCollects};
+ghost use Rattle.heap_terms.specs.Laws.{HistoriesGrow, HeapsAreWellFormed, HeapsAreSmall, NobodyCollects, HistoriesEnd, ThreadsGoOn, HistoriesComplete};
 
 /// An event that may come next makes a lawful history one longer, and the heap at its end is the
 /// one after that event.
@@ -23,4 +23,20 @@ pub fn heaps_are_small()
 /// For now no thread of a valid program owes a collection.
 pub fn nobody_collects()
     ensures { NobodyCollects }
+{}
+
+/// Each event leaves fewer to come, and no history of a valid program has more than 40,016.
+pub fn histories_end()
+    ensures { HistoriesEnd }
+{}
+
+/// A thread of a valid program that has not ended has an event that may come next, whatever was
+/// done before.
+pub fn threads_go_on()
+    ensures { ThreadsGoOn }
+{}
+
+/// Every lawful history of a valid program can be completed.
+pub fn histories_complete()
+    ensures { HistoriesComplete }
 {}
