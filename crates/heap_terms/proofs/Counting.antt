@@ -15,6 +15,7 @@ use Rattle.heap_terms.specs.Cells.{cell_value}
 use Rattle.heap_terms.specs.Heap.{NamedHeap, Thread, start, thread_at, with_thread, fresh_thread, ended_thread, object_at}
 use Rattle.heap_terms.specs.Histories.{IsNext, after, Lawful, LawfulFrom, replay, replay_from, script_of, thread_of, advance}
 use Rattle.heap_terms.specs.Objects.{Object, Contents, ConsOf, VectorOf, InstanceOf, ClosureOf, WordsOf, WeakTo, TableOf, kind_of}
+use Rattle.heap_terms.specs.Order.{is_end}
 use Rattle.heap_terms.specs.Regions.{committed, opened}
 use Rattle.heap_terms.specs.Simple.{effect_of, with_field, with_field_at}
 use Rattle.heap_terms.specs.Valid.{IsValid}
@@ -23,7 +24,7 @@ use Rattle.heap_terms.proofs.Appending.{kept_by_events}
 use Rattle.heap_terms.proofs.Committing.{new_object, initial_kind}
 use Rattle.heap_terms.proofs.Effects.{by_effect, fields_named, with_field-kind}
 use Rattle.heap_terms.proofs.Happenings.{by_events, alive_thread}
-use Rattle.heap_terms.proofs.Moving.{HasMoved, moves, commands_in, is_end, built_heap, builds_page}
+use Rattle.heap_terms.proofs.Moving.{HasMoved, moves, commands_in, built_heap, builds_page}
 use Rattle.heap_terms.proofs.Places.{push_cases, set_cases, IfSome-at, IfSome-from}
 use Rattle.heap_terms.proofs.Scripts.{only_cons_built}
 use Rattle.heap_terms.proofs.Standing.{after-well_formed}

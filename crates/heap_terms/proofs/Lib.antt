@@ -20,3 +20,5 @@ pub mod Others
 pub mod Falling
 pub mod Going
 pub mod Completing
+pub mod Running
+pub mod Ordering

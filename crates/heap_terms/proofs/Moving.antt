@@ -19,6 +19,7 @@ use Rattle.heap_terms.specs.Heap.{NamedHeap, Thread, thread_at, with_thread, end
 use Rattle.heap_terms.specs.Histories.{IsNext, after, advance, command_at, script_of, thread_of}
 use Rattle.heap_terms.specs.Layout.{page_words, page_type_of, size_of}
 use Rattle.heap_terms.specs.Objects.{Object}
+use Rattle.heap_terms.specs.Order.{is_end}
 use Rattle.heap_terms.specs.Regions.{Make, wish_of, is_small, has_room, committed, opened, destination_of, with_run}
 use Rattle.heap_terms.specs.Simple.{effect_of}
 use Rattle.heap_terms.specs.Valid.{IsValid}
@@ -60,18 +61,12 @@ builds_page p a t c kind n seed valid w command wish room =
     let small = wish_small p t (thread_at a t).done c kind n seed valid command wish in
     (small, has_page p a t kind (size_of kind n) w small room)
 
--- how many commands an event is, and whether it is an end
+-- how many commands an event is
 abbrev pub commands_in : Event → ℕ
 commands_in (Did t c answer) = 1
 commands_in (Opened t ty first k) = 0
 commands_in (Collected t last passes) = 0
 commands_in (Ended t) = 0
-
-abbrev pub is_end : Event → Bool
-is_end (Did t c answer) = false
-is_end (Opened t ty first k) = false
-is_end (Collected t last passes) = false
-is_end (Ended t) = true
 
 -- thread t did that many commands, or ended, and the others stay
 pub record HasMoved (p : Program) (a b : NamedHeap) (t commands : ℕ) (ends : Bool) : Type 0 where

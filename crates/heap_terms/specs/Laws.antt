@@ -1,14 +1,16 @@
 -- Laws of the definitions, each for every program: what a reader may rely on beside the definitions themselves.
-use Rattle.std.specs.Prelude.{◌≡◌, ℕ, ◌+◌, ◌≤◌, List, [], ◌∷◌, ◌++◌, length, IfSome, false}
+use Rattle.std.specs.Prelude.{◌≡◌, ◌↔◌, ℕ, ◌+◌, ◌<◌, ◌≤◌, List, [], ◌∷◌, ◌++◌, length, IfSome, false}
 use Rattle.heap_terms.specs.declared.events.Event.{Event}
 use Rattle.heap_terms.specs.declared.kinds.Kind.TheVariants as kinds
 use Rattle.heap_terms.specs.declared.pages.Next.TheVariants as nexts
 use Rattle.heap_terms.specs.declared.programs.Program.{Program}
 use Rattle.heap_terms.specs.Complete.{IsComplete}
 use Rattle.heap_terms.specs.Heap.{NamedHeap, object_at, thread_at}
-use Rattle.heap_terms.specs.Histories.{IsNext, after, next, Lawful, replay, thread_of}
+use Rattle.heap_terms.specs.Histories.{IsNext, after, next, Lawful, LawfulFrom, replay, replay_from, thread_of, script_of}
 use Rattle.heap_terms.specs.Left.{all_left}
 use Rattle.heap_terms.specs.Objects.{Object, kind_of}
+use Rattle.heap_terms.specs.Order.{commands_of, events_of, EndsOnce}
+use Rattle.heap_terms.specs.Runs.{IsRunOf}
 use Rattle.heap_terms.specs.Valid.{IsValid}
 use Rattle.heap_terms.specs.WellFormed.{IsWellFormed}
 
@@ -46,3 +48,14 @@ ThreadsGoOn = (p : Program) (h : List Event) (t : ℕ) → IsValid p → Lawful 
 -- so that every history is the beginning of a complete one
 abbrev pub HistoriesComplete : Type 0
 HistoriesComplete = (p : Program) (h : List Event) → IsValid p → Lawful p h → (more : List Event) × IsComplete p (h ++ more)
+
+-- runs as a relation are the lawful lists of events, with the heap that they replay to
+abbrev pub RunsAreLawful : Type 0
+RunsAreLawful = (p : Program) (a : NamedHeap) (h : List Event) (b : NamedHeap) →
+    IsRunOf p a h b ↔ (LawfulFrom p a h × (b ≡ replay_from p a h))
+
+-- in a complete history each thread does the commands of its script once and in order, and its last event is its
+-- only end
+abbrev pub ScriptsAreDone : Type 0
+ScriptsAreDone = (p : Program) (h : List Event) (t : ℕ) → IsValid p → IsComplete p h → t < length p.threads →
+    (commands_of t h ≡ script_of p t) × EndsOnce t (events_of t h)

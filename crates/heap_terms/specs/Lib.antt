@@ -11,4 +11,6 @@ pub mod Complete
 pub mod Text
 pub mod WellFormed
 pub mod Left
+pub mod Runs
+pub mod Order
 pub mod Laws

@@ -1,7 +1,7 @@
 //! Theorems about the definitions of `specs/`. Each is the contract of a function that does
 //! nothing: that it is accepted says that the law holds, of every program and every history.
 
-ghost use Rattle.heap_terms.specs.Laws.{HistoriesGrow, HeapsAreWellFormed, HeapsAreSmall, NobodyCollects, HistoriesEnd, ThreadsGoOn, HistoriesComplete};
+ghost use Rattle.heap_terms.specs.Laws.{HistoriesGrow, HeapsAreWellFormed, HeapsAreSmall, NobodyCollects, HistoriesEnd, ThreadsGoOn, HistoriesComplete, RunsAreLawful, ScriptsAreDone};
 
 /// An event that may come next makes a lawful history one longer, and the heap at its end is the
 /// one after that event.
@@ -39,4 +39,15 @@ pub fn threads_go_on()
 /// Every lawful history of a valid program can be completed.
 pub fn histories_complete()
     ensures { HistoriesComplete }
+{}
+
+/// A run with a heap after each event is a lawful list of events, and ends at the heap that the
+/// list replays to.
+pub fn runs_are_lawful()
+    ensures { RunsAreLawful }
+{}
+
+/// In a complete history each thread does its script once and in order, and then ends once.
+pub fn scripts_are_done()
+    ensures { ScriptsAreDone }
 {}
