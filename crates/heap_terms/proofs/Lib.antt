@@ -22,3 +22,4 @@ pub mod Going
 pub mod Completing
 pub mod Running
 pub mod Ordering
+pub mod Ranges

@@ -1,5 +1,5 @@
 -- Laws of the definitions, each for every program: what a reader may rely on beside the definitions themselves.
-use Rattle.std.specs.Prelude.{◌≡◌, ◌↔◌, ℕ, ◌+◌, ◌<◌, ◌≤◌, List, [], ◌∷◌, ◌++◌, length, IfSome, false}
+use Rattle.std.specs.Prelude.{◌≡◌, ◌↔◌, ℕ, ◌+◌, ◌<◌, ◌≤◌, List, [], ◌∷◌, ◌++◌, length, All, IfSome, false}
 use Rattle.heap_terms.specs.declared.events.Event.{Event}
 use Rattle.heap_terms.specs.declared.kinds.Kind.TheVariants as kinds
 use Rattle.heap_terms.specs.declared.pages.Next.TheVariants as nexts
@@ -10,6 +10,7 @@ use Rattle.heap_terms.specs.Histories.{IsNext, after, next, Lawful, LawfulFrom, 
 use Rattle.heap_terms.specs.Left.{all_left}
 use Rattle.heap_terms.specs.Objects.{Object, kind_of}
 use Rattle.heap_terms.specs.Order.{commands_of, events_of, EndsOnce}
+use Rattle.heap_terms.specs.Plain.{IsPlain}
 use Rattle.heap_terms.specs.Runs.{IsRunOf}
 use Rattle.heap_terms.specs.Valid.{IsValid}
 use Rattle.heap_terms.specs.WellFormed.{IsWellFormed}
@@ -59,3 +60,7 @@ RunsAreLawful = (p : Program) (a : NamedHeap) (h : List Event) (b : NamedHeap) �
 abbrev pub ScriptsAreDone : Type 0
 ScriptsAreDone = (p : Program) (h : List Event) (t : ℕ) → IsValid p → IsComplete p h → t < length p.threads →
     (commands_of t h ≡ script_of p t) × EndsOnce t (events_of t h)
+
+-- every event of a lawful history of a valid program is plain
+abbrev pub EventsArePlain : Type 0
+EventsArePlain = (p : Program) (h : List Event) → IsValid p → Lawful p h → All IsPlain h

@@ -13,4 +13,5 @@ pub mod WellFormed
 pub mod Left
 pub mod Runs
 pub mod Order
+pub mod Plain
 pub mod Laws

@@ -1,7 +1,7 @@
 //! Theorems about the definitions of `specs/`. Each is the contract of a function that does
 //! nothing: that it is accepted says that the law holds, of every program and every history.
 
-ghost use Rattle.heap_terms.specs.Laws.{HistoriesGrow, HeapsAreWellFormed, HeapsAreSmall, NobodyCollects, HistoriesEnd, ThreadsGoOn, HistoriesComplete, RunsAreLawful, ScriptsAreDone};
+ghost use Rattle.heap_terms.specs.Laws.{HistoriesGrow, HeapsAreWellFormed, HeapsAreSmall, NobodyCollects, HistoriesEnd, ThreadsGoOn, HistoriesComplete, RunsAreLawful, ScriptsAreDone, EventsArePlain};
 
 /// An event that may come next makes a lawful history one longer, and the heap at its end is the
 /// one after that event.
@@ -50,4 +50,10 @@ pub fn runs_are_lawful()
 /// In a complete history each thread does its script once and in order, and then ends once.
 pub fn scripts_are_done()
     ensures { ScriptsAreDone }
+{}
+
+/// Every event of a lawful history of a valid program has a command that is built, an answer that
+/// such a command gives, and numbers in their ranges.
+pub fn events_are_plain()
+    ensures { EventsArePlain }
 {}
