@@ -1,30 +1,20 @@
 -- A well-formed heap stays well-formed when a small object is put on its thread's open page.
-use Rattle.std.proofs.Common.{◌≡◌, ◌≢◌, ℕ, zero, suc, ◌+◌, ◌-◌, ◌*◌, ◌/◌, ◌%◌, ◌<◌, ◌≤◌, List, [], ◌∷◌, ◌++◌, length, Option, Some, None, Bool, true, false, ◌⊎◌, inl, inr, refl, sym, ◌∙◌, subst, ap, arith, get_or, set, replicate, eqb}
-use Rattle.std.proofs.lemmas.Bool.{cases_lt, cases_eq, cases_Bool, cases_order, eq-eqb, leb-true, false≢true}
-use Rattle.std.proofs.lemmas.List.{length-set, length-replicate, set-get_or, get_or-set_same, get_or_push, get_or_past}
-use Rattle.std.specs.Prelude.{IfSome, IsSome, if◌then◌else◌, ◌==◌, nat_le, unwrap_or}
-use Rattle.heap_terms.specs.declared.cells.Value.{Value}
-use Rattle.heap_terms.specs.declared.cells.Value.TheVariants as values
-use Rattle.heap_terms.specs.declared.commands.Command.{Command}
-use Rattle.heap_terms.specs.declared.commands.Command.TheVariants as commands
-use Rattle.heap_terms.specs.declared.kinds.Kind.{Kind}
-use Rattle.heap_terms.specs.declared.kinds.Kind.TheVariants as kinds
+use Rattle.std.proofs.Common.{◌≡◌, ℕ, ◌+◌, ◌-◌, ◌*◌, ◌/◌, ◌%◌, ◌<◌, ◌≤◌, List, [], ◌∷◌, ◌++◌, length, Option, Some, None, true, ◌⊎◌, inl, inr, refl, sym, ◌∙◌, subst, ap, arith, set}
+use Rattle.std.proofs.lemmas.Bool.{cases_lt, cases_Bool, cases_order, false≢true}
+use Rattle.std.proofs.lemmas.List.{length-set, get_or-set_same, get_or_push, get_or_past}
 use Rattle.heap_terms.specs.declared.kinds.PageType.{PageType}
 use Rattle.heap_terms.specs.declared.pages.Entry.{Entry}
 use Rattle.heap_terms.specs.declared.pages.Entry.TheVariants.{Free, Used}
 use Rattle.heap_terms.specs.declared.programs.Program.{Program}
-use Rattle.heap_terms.specs.Cells.{cell_value, with_cell}
-use Rattle.heap_terms.specs.Heap.{NamedHeap, Thread, object_at, entry_at, thread_at, with_thread, open_page, fill_of, ended_thread, fresh_thread, zero_value}
-use Rattle.heap_terms.specs.Layout.{page_words, page_type_of, size_of}
-use Rattle.heap_terms.specs.Objects.{Object, Contents, ConsOf, VectorOf, InstanceOf, ClosureOf, WordsOf, WeakTo, TableOf, kind_of, payload_of, words_of_object}
-use Rattle.heap_terms.specs.Regions.{Wish, Nothing, Make, wish_of, is_small, pages_needed, page_has_room, has_room, with_fill, small_page, place_for, pages_after, run_used, counting, triggers, committed, destination_of, initial_contents}
-use Rattle.heap_terms.specs.Valid.{IsValid}
-use Rattle.heap_terms.specs.WellFormed.{IsWellFormed, IsThread, IsLiving, HoldsLiving, IsPlaced, IsOnPage, IsPageOfRun, AreApart, IsFill, IsOwned, BelongsTo, IsOpenPage}
+use Rattle.heap_terms.specs.Heap.{NamedHeap, Thread, object_at, entry_at, thread_at, fill_of}
+use Rattle.heap_terms.specs.Layout.{page_words, page_type_of}
+use Rattle.heap_terms.specs.Objects.{Object, kind_of, payload_of, words_of_object}
+use Rattle.heap_terms.specs.Regions.{is_small, pages_needed}
+use Rattle.heap_terms.specs.WellFormed.{IsWellFormed, IsThread, HoldsLiving, IsPlaced, IsOnPage, IsPageOfRun, AreApart, IsFill, IsOwned}
 use Rattle.heap_terms.proofs.Places.{set_cases, push_cases, IfSome-at, IfSome-from}
-use Rattle.heap_terms.proofs.Living.{AllStay, IsLiving-stays, AreLiving-stays, HoldsLiving-stays, push_stays, cell_living, AreLiving-zeros, IsLivingOrUnbound-living, AreLiving-nil}
-use Rattle.heap_terms.proofs.Staying.{EntryStays, EntryStays-same, PagesStay, IsPlaced-stays, size_even, size_least, small_most, large_least, needs_two, needs_enough}
+use Rattle.heap_terms.proofs.Living.{AllStay, AreLiving-stays, HoldsLiving-stays, push_stays}
+use Rattle.heap_terms.proofs.Staying.{EntryStays-same, PagesStay, IsPlaced-stays, size_even, size_least, needs_two, needs_enough}
 use Rattle.heap_terms.proofs.Opening.{pages_thread}
-use Rattle.heap_terms.proofs.Threading.{with_cell-kept, open_page_used}
 
 -- the entry of the page after its fill rose
 pub filled_entry : (pages : List Entry) (page : ℕ) (ty : PageType) (fill size i : ℕ) → entry_at pages page ≡ Used ty 0 fill page 1 →

@@ -1,29 +1,28 @@
 -- A valid program makes conses alone, since no other word that allocates is read.
-use Rattle.std.proofs.Common.{◌≡◌, ◌≢◌, ℕ, ◌+◌, ◌*◌, ◌<◌, ◌≤◌, List, [], ◌∷◌, ◌++◌, length, Option, Some, None, Bool, true, false, ◌⊎◌, inl, inr, refl, sym, ◌∙◌, subst, ap, arith, get_or, set}
+use Rattle.std.proofs.Common.{◌≡◌, ℕ, ◌+◌, ◌*◌, List, [], ◌∷◌, ◌++◌, Option, Some, None, inl, inr, refl, ◌∙◌, set}
 use Rattle.std.specs.Prelude.{IfSome}
 use Rattle.heap_terms.specs.declared.cells.Value.{Value}
 use Rattle.heap_terms.specs.declared.cells.Value.TheVariants as values
 use Rattle.heap_terms.specs.declared.commands.Command.{Command}
 use Rattle.heap_terms.specs.declared.events.Event.{Event}
-use Rattle.heap_terms.specs.declared.kinds.Kind.{Kind}
 use Rattle.heap_terms.specs.declared.kinds.Kind.TheVariants as kinds
 use Rattle.heap_terms.specs.declared.kinds.PageType.{PageType}
 use Rattle.heap_terms.specs.declared.programs.Program.{Program}
-use Rattle.heap_terms.specs.Cells.{cell_value, with_cell}
+use Rattle.heap_terms.specs.Cells.{cell_value}
 use Rattle.heap_terms.specs.Heap.{NamedHeap, start, thread_at, object_at}
-use Rattle.heap_terms.specs.Histories.{IsNext, after, Lawful, replay, command_at}
+use Rattle.heap_terms.specs.Histories.{IsNext, after, Lawful, replay}
 use Rattle.heap_terms.specs.Layout.{page_words}
 use Rattle.heap_terms.specs.Objects.{Object, Contents, ConsOf, VectorOf, InstanceOf, ClosureOf, WordsOf, WeakTo, TableOf, kind_of}
-use Rattle.heap_terms.specs.Regions.{committed, opened, Make, wish_of}
-use Rattle.heap_terms.specs.Simple.{effect_of, with_field, with_field_at, object_with_field}
+use Rattle.heap_terms.specs.Regions.{opened}
+use Rattle.heap_terms.specs.Simple.{effect_of, with_field, with_field_at}
 use Rattle.heap_terms.specs.Valid.{IsValid}
 use Rattle.heap_terms.specs.WellFormed.{IsWellFormed}
 use Rattle.heap_terms.proofs.Appending.{kept_by_events}
 use Rattle.heap_terms.proofs.Committing.{new_object, initial_kind}
 use Rattle.heap_terms.proofs.Effects.{by_effect, fields_named, with_field-kind}
-use Rattle.heap_terms.proofs.Happenings.{by_events, Builds}
+use Rattle.heap_terms.proofs.Happenings.{by_events}
 use Rattle.heap_terms.proofs.Moving.{built_heap, builds_page}
-use Rattle.heap_terms.proofs.Places.{push_cases, set_cases, IfSome-at, IfSome-from}
+use Rattle.heap_terms.proofs.Places.{push_cases, set_cases, IfSome-at}
 use Rattle.heap_terms.proofs.Scripts.{only_cons_built}
 use Rattle.heap_terms.proofs.Standing.{after-well_formed}
 use Rattle.heap_terms.proofs.Tasks.{with_cell-objects}

@@ -1,35 +1,22 @@
 -- A valid program makes at most 20,000 objects, and all of them are conses.
-use Rattle.std.proofs.Common.{◌≡◌, ◌≢◌, ℕ, zero, suc, ◌+◌, ◌*◌, ◌<◌, ◌≤◌, List, [], ◌∷◌, ◌++◌, length, map, Option, Some, None, Bool, true, false, ◌⊎◌, inl, inr, refl, sym, ◌∙◌, subst, ap, arith, get_or, set}
-use Rattle.std.proofs.lemmas.Bool.{cases_lt, cases_eq, cases_Bool, false≢true}
+use Rattle.std.proofs.Common.{◌≡◌, ℕ, ◌+◌, ◌<◌, ◌≤◌, List, [], length, map, Bool, true, inl, inr, refl, sym, ◌∙◌, subst, ap, arith, get_or}
+use Rattle.std.proofs.lemmas.Bool.{cases_lt, cases_eq, false≢true}
 use Rattle.std.proofs.lemmas.List.{length-map, get_or-map, get_or_past}
 use Rattle.std.specs.List.{range_with_len, sum_by}
-use Rattle.std.specs.Prelude.{IfSome}
-use Rattle.heap_terms.specs.declared.cells.Value.{Value}
 use Rattle.heap_terms.specs.declared.commands.Command.{Command}
 use Rattle.heap_terms.specs.declared.events.Event.{Event}
 use Rattle.heap_terms.specs.declared.events.Event.TheVariants.{Did, Opened, Collected, Ended}
-use Rattle.heap_terms.specs.declared.kinds.Kind.{Kind}
-use Rattle.heap_terms.specs.declared.kinds.Kind.TheVariants as kinds
 use Rattle.heap_terms.specs.declared.programs.Program.{Program}
-use Rattle.heap_terms.specs.Cells.{cell_value}
-use Rattle.heap_terms.specs.Heap.{NamedHeap, Thread, start, thread_at, with_thread, fresh_thread, ended_thread, object_at}
-use Rattle.heap_terms.specs.Histories.{IsNext, after, Lawful, LawfulFrom, replay, replay_from, script_of, thread_of, advance}
-use Rattle.heap_terms.specs.Objects.{Object, Contents, ConsOf, VectorOf, InstanceOf, ClosureOf, WordsOf, WeakTo, TableOf, kind_of}
+use Rattle.heap_terms.specs.Heap.{NamedHeap, Thread, start, thread_at, fresh_thread, ended_thread}
+use Rattle.heap_terms.specs.Histories.{IsNext, after, Lawful, replay, script_of, thread_of}
 use Rattle.heap_terms.specs.Order.{is_end}
-use Rattle.heap_terms.specs.Regions.{committed, opened}
-use Rattle.heap_terms.specs.Simple.{effect_of, with_field, with_field_at}
 use Rattle.heap_terms.specs.Valid.{IsValid}
 use Rattle.heap_terms.specs.WellFormed.{IsWellFormed}
 use Rattle.heap_terms.proofs.Appending.{kept_by_events}
-use Rattle.heap_terms.proofs.Committing.{new_object, initial_kind}
-use Rattle.heap_terms.proofs.Effects.{by_effect, fields_named, with_field-kind}
-use Rattle.heap_terms.proofs.Happenings.{by_events, alive_thread}
-use Rattle.heap_terms.proofs.Moving.{HasMoved, moves, commands_in, built_heap, builds_page}
-use Rattle.heap_terms.proofs.Places.{push_cases, set_cases, IfSome-at, IfSome-from}
-use Rattle.heap_terms.proofs.Scripts.{only_cons_built}
+use Rattle.heap_terms.proofs.Happenings.{alive_thread}
+use Rattle.heap_terms.proofs.Moving.{HasMoved, moves, commands_in}
 use Rattle.heap_terms.proofs.Standing.{after-well_formed}
 use Rattle.heap_terms.proofs.Sums.{sum_le, sum_change, sum_places}
-use Rattle.heap_terms.proofs.Tasks.{with_cell-objects}
 use Rattle.heap_terms.proofs.Threading.{start-well_formed}
 
 -- the threads at the start

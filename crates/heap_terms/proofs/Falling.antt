@@ -1,8 +1,8 @@
 -- What is left falls with every event, so that each history ends.
-use Rattle.std.proofs.Common.{◌≡◌, ◌≢◌, ℕ, zero, suc, ◌+◌, ◌-◌, ◌*◌, ◌<◌, ◌≤◌, List, [], ◌∷◌, ◌++◌, length, Option, Some, None, Bool, true, false, ◌⊎◌, inl, inr, refl, sym, ◌∙◌, subst, ap, arith, get_or, set, eqb}
-use Rattle.std.proofs.lemmas.Bool.{cases_lt, cases_eq, cases_Bool, false≢true, eq-eqb, ne_eqb, le-leb}
+use Rattle.std.proofs.Common.{◌≡◌, ◌≢◌, ℕ, ◌+◌, ◌-◌, ◌*◌, ◌≤◌, List, [], ◌∷◌, length, Option, Some, None, Bool, true, false, inl, inr, refl, sym, ◌∙◌, subst, ap, arith, get_or}
+use Rattle.std.proofs.lemmas.Bool.{cases_Bool, eq-eqb, ne_eqb, le-leb}
 use Rattle.std.specs.List.{range_with_len, sum_by}
-use Rattle.std.specs.Prelude.{slice_get, if◌then◌else◌, ◌==◌, nat_le}
+use Rattle.std.specs.Prelude.{slice_get, if◌then◌else◌, ◌==◌}
 use Rattle.heap_terms.specs.declared.commands.Command.{Command}
 use Rattle.heap_terms.specs.declared.events.Event.{Event}
 use Rattle.heap_terms.specs.declared.events.Event.TheVariants.{Did, Opened, Collected, Ended}
@@ -11,21 +11,20 @@ use Rattle.heap_terms.specs.declared.kinds.Kind.{Kind}
 use Rattle.heap_terms.specs.declared.kinds.PageType.{PageType}
 use Rattle.heap_terms.specs.declared.kinds.PageType.TheVariants as types
 use Rattle.heap_terms.specs.declared.pages.Entry.{Entry}
-use Rattle.heap_terms.specs.declared.pages.Entry.TheVariants.{Free, Used}
+use Rattle.heap_terms.specs.declared.pages.Entry.TheVariants.{Used}
 use Rattle.heap_terms.specs.declared.pages.Next.{Next}
 use Rattle.heap_terms.specs.declared.pages.Next.TheVariants as nexts
 use Rattle.heap_terms.specs.declared.programs.Program.{Program}
-use Rattle.heap_terms.specs.Heap.{NamedHeap, Thread, start, thread_at, with_thread, ended_thread, entry_at, open_page, with_open_page}
-use Rattle.heap_terms.specs.Histories.{IsNext, after, advance, command_at, script_of, thread_of, next, next_for, next_command, next_unless_due, due, Lawful, LawfulFrom, replay, replay_from}
+use Rattle.heap_terms.specs.Heap.{NamedHeap, Thread, start, thread_at, entry_at, open_page, with_open_page}
+use Rattle.heap_terms.specs.Histories.{IsNext, after, command_at, script_of, thread_of, next, next_for, next_command, Lawful, LawfulFrom, replay_from}
 use Rattle.heap_terms.specs.Layout.{page_words, page_type_of, size_of}
 use Rattle.heap_terms.specs.Left.{left, all_left, opens_next}
-use Rattle.heap_terms.specs.Regions.{Wish, Nothing, Make, wish_of, is_small, pages_needed, has_room, page_has_room, entry_has_room, entry_is_run, run_has_room, committed, opened, with_run, IsRun}
-use Rattle.heap_terms.specs.Simple.{effect_of}
+use Rattle.heap_terms.specs.Regions.{Wish, is_small, pages_needed, has_room, page_has_room, entry_has_room, entry_is_run, run_has_room, opened, with_run, IsRun}
 use Rattle.heap_terms.specs.Valid.{IsValid}
 use Rattle.heap_terms.specs.WellFormed.{IsWellFormed}
-use Rattle.heap_terms.proofs.Happenings.{by_events, alive_thread, Opens, opens_from}
+use Rattle.heap_terms.proofs.Happenings.{alive_thread, Opens, opens_from}
 use Rattle.heap_terms.proofs.Counting.{event_thread}
-use Rattle.heap_terms.proofs.Moving.{moves, HasMoved}
+use Rattle.heap_terms.proofs.Moving.{moves}
 use Rattle.heap_terms.proofs.Opening.{run_entry, opens_run, thread_with_run}
 use Rattle.heap_terms.proofs.Others.{next_same, others_entries}
 use Rattle.heap_terms.proofs.Standing.{after-well_formed}

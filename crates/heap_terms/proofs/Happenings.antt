@@ -1,5 +1,5 @@
 -- The kinds of event that may come next, with what is known of each.
-use Rattle.std.proofs.Common.{◌≡◌, ◌≢◌, ℕ, ◌+◌, ◌<◌, ◌≤◌, List, [], ◌∷◌, length, Option, Some, None, Bool, true, false, ◌⊎◌, inl, inr, refl, sym, ◌∙◌, subst, ap, arith}
+use Rattle.std.proofs.Common.{◌≡◌, ◌≢◌, ℕ, ◌<◌, length, Option, Some, None, Bool, true, false, inl, inr, refl, sym, ◌∙◌, ap}
 use Rattle.std.proofs.lemmas.Bool.{cases_lt, cases_Bool, false≢true}
 use Rattle.std.proofs.lemmas.List.{get_or_past}
 use Rattle.std.specs.Prelude.{if◌then◌else◌}
@@ -15,7 +15,7 @@ use Rattle.heap_terms.specs.declared.pages.Next.{Next}
 use Rattle.heap_terms.specs.declared.pages.Next.TheVariants as nexts
 use Rattle.heap_terms.specs.declared.programs.Program.{Program}
 use Rattle.heap_terms.specs.Heap.{NamedHeap, Thread, thread_at, with_thread, ended_thread, fresh_thread}
-use Rattle.heap_terms.specs.Histories.{IsNext, IsAnswer, IsOpening, after, after_command, next, next_for, next_command, next_unless_due, due, advance, command_at, wish_at, wished_size}
+use Rattle.heap_terms.specs.Histories.{IsNext, IsAnswer, IsOpening, after, after_command, next, next_for, next_command, next_unless_due, due, advance, command_at, wish_at}
 use Rattle.heap_terms.specs.Layout.{page_type_of, size_of}
 use Rattle.heap_terms.specs.Regions.{Wish, Nothing, Make, wish_of, has_room, pages_needed, IsLowestRun, HasNoRun, opened, committed, place_for}
 use Rattle.heap_terms.specs.Simple.{answer_of, effect_of}

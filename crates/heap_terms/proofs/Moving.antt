@@ -1,35 +1,32 @@
 -- What an event does to the threads: its own goes on by a command, or ends, and the others stay as they are.
-use Rattle.std.proofs.Common.{◌≡◌, ◌≢◌, ℕ, zero, suc, ◌+◌, ◌*◌, ◌<◌, ◌≤◌, List, [], ◌∷◌, ◌++◌, length, Option, Some, None, Bool, true, false, ◌⊎◌, inl, inr, refl, sym, ◌∙◌, subst, ap, arith, get_or, set}
-use Rattle.std.proofs.lemmas.Bool.{cases_lt, cases_eq, cases_Bool, false≢true}
+use Rattle.std.proofs.Common.{◌≡◌, ◌≢◌, ℕ, ◌+◌, ◌*◌, ◌<◌, ◌≤◌, List, [], ◌∷◌, ◌++◌, length, Some, None, Bool, true, false, inl, inr, refl, sym, ◌∙◌, subst, ap, arith, get_or, set}
+use Rattle.std.proofs.lemmas.Bool.{cases_lt, false≢true}
 use Rattle.std.proofs.lemmas.List.{length-set, length_push}
 use Rattle.std.proofs.lemmas.Option.{slice_get-get_or}
 use Rattle.std.specs.Prelude.{slice_get}
-use Rattle.heap_terms.specs.declared.cells.Value.{Value}
 use Rattle.heap_terms.specs.declared.cells.Value.TheVariants as values
 use Rattle.heap_terms.specs.declared.commands.Command.{Command}
 use Rattle.heap_terms.specs.declared.events.Event.{Event}
 use Rattle.heap_terms.specs.declared.events.Event.TheVariants.{Did, Opened, Collected, Ended}
 use Rattle.heap_terms.specs.declared.kinds.Kind.{Kind}
 use Rattle.heap_terms.specs.declared.kinds.PageType.{PageType}
-use Rattle.heap_terms.specs.declared.pages.Entry.{Entry}
-use Rattle.heap_terms.specs.declared.pages.Entry.TheVariants.{Free, Used}
+use Rattle.heap_terms.specs.declared.pages.Entry.TheVariants.{Used}
 use Rattle.heap_terms.specs.declared.programs.Program.{Program}
 use Rattle.heap_terms.specs.Cells.{with_cell}
-use Rattle.heap_terms.specs.Heap.{NamedHeap, Thread, thread_at, with_thread, ended_thread, object_at, entry_at}
+use Rattle.heap_terms.specs.Heap.{NamedHeap, Thread, thread_at, ended_thread}
 use Rattle.heap_terms.specs.Histories.{IsNext, after, advance, command_at, script_of, thread_of}
 use Rattle.heap_terms.specs.Layout.{page_words, page_type_of, size_of}
-use Rattle.heap_terms.specs.Objects.{Object}
 use Rattle.heap_terms.specs.Order.{is_end}
-use Rattle.heap_terms.specs.Regions.{Make, wish_of, is_small, has_room, committed, opened, destination_of, with_run}
+use Rattle.heap_terms.specs.Regions.{Make, wish_of, is_small, has_room, committed, opened, destination_of}
 use Rattle.heap_terms.specs.Simple.{effect_of}
 use Rattle.heap_terms.specs.Valid.{IsValid}
 use Rattle.heap_terms.specs.WellFormed.{IsWellFormed}
 use Rattle.heap_terms.proofs.Committing.{HasPage, has_page, heap_with, new_object, committed-small}
-use Rattle.heap_terms.proofs.Happenings.{by_events, alive_thread, DoesSimple, IsRefused, Builds, Opens, Ends}
-use Rattle.heap_terms.proofs.Opening.{OpensRun, opens_run, thread_with_run}
+use Rattle.heap_terms.proofs.Happenings.{by_events, alive_thread}
+use Rattle.heap_terms.proofs.Opening.{opens_run, thread_with_run}
 use Rattle.heap_terms.proofs.Scripts.{script_place}
 use Rattle.heap_terms.proofs.Standing.{wish_small}
-use Rattle.heap_terms.proofs.Tasks.{IsSameTask, same_task, IsSameBoard, with_cell-board, with_cell-objects, effect-board, advanced_thread, advance_others}
+use Rattle.heap_terms.proofs.Tasks.{IsSameTask, same_task, with_cell-board, with_cell-objects, effect-board, advanced_thread, advance_others}
 use Rattle.heap_terms.proofs.Threading.{changed_thread, other_thread}
 
 -- a heap after a commit, but for the thread's place in its script

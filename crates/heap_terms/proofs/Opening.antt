@@ -1,20 +1,19 @@
 -- A well-formed heap stays well-formed when a thread opens a region.
-use Rattle.std.proofs.Common.{◌≡◌, ◌≢◌, ℕ, zero, suc, ◌+◌, ◌-◌, ◌*◌, ◌<◌, ◌≤◌, List, [], ◌∷◌, ◌++◌, length, Option, Some, None, Bool, true, false, ◌⊎◌, inl, inr, refl, sym, ◌∙◌, subst, ap, arith, get_or, set, take, drop, replicate, min, eqb}
-use Rattle.std.proofs.lemmas.Bool.{cases_lt, cases_eq, cases_Bool, eq-eqb, ne_eqb}
-use Rattle.std.proofs.lemmas.List.{length-append, length-take, length-take-le, length-drop, length-replicate, get_or-take, get_or-drop, get_or-replicate, get_or_append_left, get_or-append_right, get_or_past}
-use Rattle.std.specs.Prelude.{IfSome, IsSome, if◌then◌else◌, ◌==◌}
+use Rattle.std.proofs.Common.{◌≡◌, ◌≢◌, ℕ, ◌+◌, ◌-◌, ◌<◌, ◌≤◌, List, ◌++◌, length, Option, Some, true, ◌⊎◌, inl, inr, refl, sym, ◌∙◌, subst, ap, arith, get_or, take, drop, replicate}
+use Rattle.std.proofs.lemmas.Bool.{cases_lt, cases_eq, eq-eqb, ne_eqb}
+use Rattle.std.proofs.lemmas.List.{length-append, length-take-le, length-drop, length-replicate, get_or-take, get_or-drop, get_or-replicate, get_or_append_left, get_or-append_right}
+use Rattle.std.specs.Prelude.{if◌then◌else◌, ◌==◌}
 use Rattle.heap_terms.specs.declared.kinds.PageType.{PageType}
 use Rattle.heap_terms.specs.declared.kinds.PageType.TheVariants as types
 use Rattle.heap_terms.specs.declared.pages.Entry.{Entry}
 use Rattle.heap_terms.specs.declared.pages.Entry.TheVariants.{Free, Used}
 use Rattle.heap_terms.specs.declared.programs.Program.{Program}
-use Rattle.heap_terms.specs.Heap.{NamedHeap, Thread, object_at, entry_at, thread_at, with_thread, open_page, with_open_page, fill_of}
-use Rattle.heap_terms.specs.Layout.{page_words}
-use Rattle.heap_terms.specs.Objects.{Object, words_of_object}
-use Rattle.heap_terms.specs.Regions.{IsRun, IsLowestRun, is_free, with_run, opened}
-use Rattle.heap_terms.specs.WellFormed.{IsWellFormed, IsThread, IsPlaced, IsFill, IsOwned, IsOpenPage, IsOpenRun, IsOpenRunPage}
+use Rattle.heap_terms.specs.Heap.{NamedHeap, Thread, object_at, entry_at, thread_at, with_thread, open_page, with_open_page}
+use Rattle.heap_terms.specs.Objects.{Object}
+use Rattle.heap_terms.specs.Regions.{IsRun, is_free, with_run, opened}
+use Rattle.heap_terms.specs.WellFormed.{IsWellFormed, IsThread, IsPlaced, IsOpenPage, IsOpenRun, IsOpenRunPage}
 use Rattle.heap_terms.proofs.Places.{IfSome-at, IfSome-from}
-use Rattle.heap_terms.proofs.Staying.{EntryStays, EntryStays-same, PagesStay, IsPlaced-stays, IsOpenPage-stays, IsOpenRun-stays}
+use Rattle.heap_terms.proofs.Staying.{EntryStays-same, PagesStay, IsPlaced-stays, IsOpenPage-stays, IsOpenRun-stays}
 use Rattle.heap_terms.proofs.Threading.{AreOwn, with_thread-own, thread_cases, open_page_used, open_run_used}
 
 -- the entries while a run is open: those of the run, and the others

@@ -1,10 +1,9 @@
 -- In a complete history each thread does its commands once and in order, and then ends.
-use Rattle.std.proofs.Common.{◌≡◌, ◌≢◌, ℕ, zero, suc, ◌+◌, ◌*◌, ◌<◌, ◌≤◌, List, [], ◌∷◌, ◌++◌, length, Option, Some, None, Bool, true, false, ◌⊎◌, inl, inr, refl, sym, ◌∙◌, subst, ap, arith, get_or, drop}
-use Rattle.std.proofs.lemmas.Bool.{cases_lt, cases_eq, cases_Bool, false≢true, eq-eqb, ne_eqb}
+use Rattle.std.proofs.Common.{◌≡◌, ◌≢◌, ℕ, ◌+◌, ◌<◌, ◌≤◌, List, [], ◌∷◌, ◌++◌, length, Option, Some, None, true, false, inl, inr, refl, sym, ◌∙◌, subst, ap, arith, drop}
+use Rattle.std.proofs.lemmas.Bool.{cases_eq, cases_Bool, false≢true, eq-eqb, ne_eqb}
 use Rattle.std.proofs.lemmas.List.{drop_more, drop_all, append-nil}
 use Rattle.std.proofs.lemmas.Option.{get_or_from_slice_get}
 use Rattle.std.specs.List.{filter, filter_map, cons_option}
-use Rattle.std.specs.Prelude.{slice_get, ◌==◌}
 use Rattle.heap_terms.specs.declared.answers.Answer.{Answer}
 use Rattle.heap_terms.specs.declared.commands.Command.{Command}
 use Rattle.heap_terms.specs.declared.events.Event.{Event}
@@ -16,9 +15,9 @@ use Rattle.heap_terms.specs.Histories.{IsNext, after, LawfulFrom, replay_from, r
 use Rattle.heap_terms.specs.Order.{events_of, command_in, commands_of, is_end, EndsOnce}
 use Rattle.heap_terms.specs.Valid.{IsValid}
 use Rattle.heap_terms.specs.WellFormed.{IsWellFormed}
-use Rattle.heap_terms.proofs.Counting.{IsCounted, after-counted, start-counted, start_done, start_thread_is, replay-counted}
+use Rattle.heap_terms.proofs.Counting.{start_done, start_thread_is, replay-counted}
 use Rattle.heap_terms.proofs.Falling.{no_collection}
-use Rattle.heap_terms.proofs.Moving.{moves, HasMoved, commands_in}
+use Rattle.heap_terms.proofs.Moving.{moves}
 use Rattle.heap_terms.proofs.Scripts.{script_place}
 use Rattle.heap_terms.proofs.Standing.{after-well_formed}
 use Rattle.heap_terms.proofs.Threading.{start-well_formed}

@@ -1,11 +1,9 @@
 -- An event leaves what every other thread does next.
-use Rattle.std.proofs.Common.{◌≡◌, ◌≢◌, ℕ, zero, suc, ◌+◌, ◌*◌, ◌<◌, ◌≤◌, List, [], ◌∷◌, ◌++◌, length, Option, Some, None, Bool, true, false, ◌⊎◌, inl, inr, refl, sym, ◌∙◌, subst, ap, arith, get_or, set}
-use Rattle.std.proofs.lemmas.Bool.{cases_lt, cases_eq, cases_Bool, false≢true}
+use Rattle.std.proofs.Common.{◌≡◌, ◌≢◌, ℕ, ◌+◌, List, Option, Some, None, Bool, true, false, inl, inr, refl, sym, ◌∙◌, subst, ap, arith}
 use Rattle.std.proofs.lemmas.List.{get_or-set_other}
 use Rattle.std.specs.Prelude.{slice_get, if◌then◌else◌, ◌==◌}
 use Rattle.heap_terms.specs.declared.commands.Command.{Command}
 use Rattle.heap_terms.specs.declared.events.Event.{Event}
-use Rattle.heap_terms.specs.declared.events.Event.TheVariants.{Did, Opened, Collected, Ended}
 use Rattle.heap_terms.specs.declared.kinds.Kind.{Kind}
 use Rattle.heap_terms.specs.declared.kinds.PageType.{PageType}
 use Rattle.heap_terms.specs.declared.pages.Entry.{Entry}
@@ -13,16 +11,15 @@ use Rattle.heap_terms.specs.declared.pages.Entry.TheVariants.{Free, Used}
 use Rattle.heap_terms.specs.declared.pages.Next.{Next}
 use Rattle.heap_terms.specs.declared.pages.Next.TheVariants as nexts
 use Rattle.heap_terms.specs.declared.programs.Program.{Program}
-use Rattle.heap_terms.specs.Heap.{NamedHeap, Thread, thread_at, with_thread, ended_thread, entry_at, open_page}
-use Rattle.heap_terms.specs.Histories.{IsNext, after, advance, command_at, script_of, thread_of, next, next_for, next_command, next_unless_due, due}
+use Rattle.heap_terms.specs.Heap.{NamedHeap, thread_at, with_thread, ended_thread, entry_at, open_page}
+use Rattle.heap_terms.specs.Histories.{IsNext, after, advance, command_at, script_of, thread_of, next, next_for, next_command, next_unless_due}
 use Rattle.heap_terms.specs.Layout.{page_type_of, size_of}
-use Rattle.heap_terms.specs.Regions.{Wish, Nothing, Make, wish_of, is_small, has_room, page_has_room, run_has_room, committed, opened, with_run, IsRun}
+use Rattle.heap_terms.specs.Regions.{Wish, Nothing, Make, wish_of, is_small, has_room, page_has_room, run_has_room, opened, IsRun}
 use Rattle.heap_terms.specs.Simple.{effect_of}
 use Rattle.heap_terms.specs.Valid.{IsValid}
-use Rattle.heap_terms.specs.WellFormed.{IsWellFormed, IsOpenPage, IsOpenRun, IsOpenRunPage}
-use Rattle.heap_terms.proofs.Committing.{HasPage}
+use Rattle.heap_terms.specs.WellFormed.{IsWellFormed, IsOpenRun, IsOpenRunPage}
 use Rattle.heap_terms.proofs.Happenings.{by_events}
-use Rattle.heap_terms.proofs.Moving.{built_heap, builds_page, moves}
+use Rattle.heap_terms.proofs.Moving.{built_heap, builds_page}
 use Rattle.heap_terms.proofs.Opening.{run_cases, open_run_taken}
 use Rattle.heap_terms.proofs.Tasks.{IsSameTask, effect-board}
 use Rattle.heap_terms.proofs.Threading.{open_page_used, open_run_used}

@@ -1,5 +1,5 @@
 -- The events of a valid program are plain.
-use Rattle.std.proofs.Common.{◌≡◌, ◌≢◌, ℕ, zero, suc, ◌+◌, ◌*◌, ◌<◌, ◌≤◌, List, [], ◌∷◌, ◌++◌, length, Option, Some, None, Bool, true, false, ◌⊎◌, inl, inr, refl, sym, ◌∙◌, subst, ap, arith, get_or}
+use Rattle.std.proofs.Common.{◌≡◌, ℕ, ◌+◌, ◌*◌, ◌<◌, ◌≤◌, List, [], ◌∷◌, length, Option, Some, None, Bool, true, false, inl, inr, refl, subst, ap, arith}
 use Rattle.std.proofs.lemmas.Bool.{cases_lt, false≢true}
 use Rattle.std.proofs.lemmas.List.{get_or_past, length_push}
 use Rattle.std.proofs.lemmas.List.Elements.{All-from_recursion}
@@ -8,34 +8,31 @@ use Rattle.std.specs.List.{All, AllByRecursion}
 use Rattle.std.specs.Prelude.{IsSome, if◌then◌else◌, nat_lt, slice_index_or}
 use Rattle.heap_terms.specs.declared.answers.Answer.{Answer}
 use Rattle.heap_terms.specs.declared.answers.Answer.TheVariants as answers
-use Rattle.heap_terms.specs.declared.answers.Refusal.TheVariants.{NotType, OutOfRange}
+use Rattle.heap_terms.specs.declared.answers.Refusal.TheVariants.{OutOfRange}
 use Rattle.heap_terms.specs.declared.cells.Value.{Value}
 use Rattle.heap_terms.specs.declared.cells.Value.TheVariants as values
 use Rattle.heap_terms.specs.declared.commands.Command.{Command}
 use Rattle.heap_terms.specs.declared.commands.Command.TheVariants.{Fix, NewCons, Get, Put, Show}
 use Rattle.heap_terms.specs.declared.events.Event.{Event}
-use Rattle.heap_terms.specs.declared.events.Event.TheVariants.{Did, Opened, Collected, Ended}
-use Rattle.heap_terms.specs.declared.kinds.Kind.{Kind}
 use Rattle.heap_terms.specs.declared.programs.Program.{Program}
 use Rattle.heap_terms.specs.Cells.{cell_value}
 use Rattle.heap_terms.specs.Heap.{NamedHeap, start, thread_at, object_at, zero_value}
-use Rattle.heap_terms.specs.Histories.{IsNext, after, Lawful, LawfulFrom, command_at, thread_of}
+use Rattle.heap_terms.specs.Histories.{IsNext, after, Lawful, LawfulFrom, thread_of}
 use Rattle.heap_terms.specs.Layout.{page_words, page_type_of, size_of}
 use Rattle.heap_terms.specs.Objects.{Object}
 use Rattle.heap_terms.specs.Plain.{IsPlainValue, IsPlainAnswer, IsPlain}
-use Rattle.heap_terms.specs.Regions.{pages_needed, place_for}
 use Rattle.heap_terms.specs.Simple.{answer_of, fields_at, refusing}
 use Rattle.heap_terms.specs.Valid.{IsValid}
 use Rattle.heap_terms.specs.WellFormed.{IsWellFormed, IsLiving, HoldsLiving}
 use Rattle.heap_terms.proofs.Building.{used_inside}
-use Rattle.heap_terms.proofs.Committing.{HasPage, new_object, place_small}
+use Rattle.heap_terms.proofs.Committing.{new_object, place_small}
 use Rattle.heap_terms.proofs.Counting.{IsCounted, after-counted, start-counted, counted_few, event_thread}
 use Rattle.heap_terms.proofs.Effects.{fields_named}
-use Rattle.heap_terms.proofs.Happenings.{by_events, DoesSimple, Builds, Opens}
+use Rattle.heap_terms.proofs.Happenings.{by_events}
 use Rattle.heap_terms.proofs.Living.{cell_living, fields_living}
 use Rattle.heap_terms.proofs.Moving.{built_heap, builds_page}
 use Rattle.heap_terms.proofs.Places.{IfSome-at}
-use Rattle.heap_terms.proofs.Scripts.{IsBuilt, script_built, script_thread, script_command}
+use Rattle.heap_terms.proofs.Scripts.{IsBuilt, script_built, script_command}
 use Rattle.heap_terms.proofs.Staying.{needs_least, size_least}
 
 -- an object that is there has a name below the number of names

@@ -1,10 +1,10 @@
 -- Runs as a relation say the same as lawful lists of events.
-use Rattle.std.proofs.Common.{◌≡◌, List, [], ◌∷◌, refl, sym, ◌∙◌, subst, ap}
+use Rattle.std.proofs.Common.{◌≡◌, List, [], ◌∷◌, refl, ◌∙◌, subst, ap}
 use Rattle.heap_terms.specs.declared.events.Event.{Event}
 use Rattle.heap_terms.specs.declared.programs.Program.{Program}
 use Rattle.heap_terms.specs.Heap.{NamedHeap}
-use Rattle.heap_terms.specs.Histories.{IsNext, after, LawfulFrom, replay_from}
-use Rattle.heap_terms.specs.Runs.{IsStep, IsRunOf}
+use Rattle.heap_terms.specs.Histories.{after, LawfulFrom, replay_from}
+use Rattle.heap_terms.specs.Runs.{IsRunOf}
 
 pub lawful_from_run : (p : Program) (a : NamedHeap) (h : List Event) (b : NamedHeap) → IsRunOf p a h b → LawfulFrom p a h × (b ≡ replay_from p a h)
 lawful_from_run p a [] b run = (tt, run)

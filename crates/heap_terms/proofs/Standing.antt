@@ -1,29 +1,23 @@
 -- Every lawful history of a valid program leaves a well-formed heap.
-use Rattle.std.proofs.Common.{◌≡◌, ◌≢◌, ℕ, ◌+◌, ◌<◌, ◌≤◌, List, [], ◌∷◌, ◌++◌, length, Option, Some, None, Bool, true, false, ◌⊎◌, inl, inr, refl, sym, ◌∙◌, subst, ap, arith}
-use Rattle.std.specs.Prelude.{IfSome, IsSome, slice_get}
-use Rattle.heap_terms.specs.declared.answers.Answer.{Answer}
-use Rattle.heap_terms.specs.declared.cells.Value.{Value}
+use Rattle.std.proofs.Common.{◌≡◌, ℕ, ◌<◌, List, length, Some, true, refl, subst}
+use Rattle.std.specs.Prelude.{slice_get}
 use Rattle.heap_terms.specs.declared.cells.Value.TheVariants as values
 use Rattle.heap_terms.specs.declared.commands.Command.{Command}
-use Rattle.heap_terms.specs.declared.commands.Command.TheVariants as commands
 use Rattle.heap_terms.specs.declared.events.Event.{Event}
 use Rattle.heap_terms.specs.declared.kinds.Kind.{Kind}
-use Rattle.heap_terms.specs.declared.kinds.Kind.TheVariants as kinds
-use Rattle.heap_terms.specs.declared.kinds.PageType.{PageType}
 use Rattle.heap_terms.specs.declared.programs.Program.{Program}
-use Rattle.heap_terms.specs.Cells.{cell_value, with_cell}
-use Rattle.heap_terms.specs.Heap.{NamedHeap, start, thread_at, with_thread, ended_thread, object_at}
-use Rattle.heap_terms.specs.Histories.{IsNext, after, advance, command_at, Lawful, LawfulFrom, replay, replay_from, script_of}
+use Rattle.heap_terms.specs.Cells.{cell_value}
+use Rattle.heap_terms.specs.Heap.{NamedHeap, start, thread_at, object_at}
+use Rattle.heap_terms.specs.Histories.{IsNext, after, Lawful, LawfulFrom, replay, replay_from, script_of}
 use Rattle.heap_terms.specs.Layout.{size_of}
-use Rattle.heap_terms.specs.Objects.{Object}
-use Rattle.heap_terms.specs.Regions.{Make, wish_of, is_small, pages_needed, committed, opened}
+use Rattle.heap_terms.specs.Regions.{Make, wish_of, is_small, committed}
 use Rattle.heap_terms.specs.Simple.{effect_of}
-use Rattle.heap_terms.specs.Valid.{IsValid, IsCommand, IsFixnum}
+use Rattle.heap_terms.specs.Valid.{IsValid, IsCommand}
 use Rattle.heap_terms.specs.WellFormed.{IsWellFormed, HoldsLiving}
 use Rattle.heap_terms.proofs.Appending.{kept_by_events}
 use Rattle.heap_terms.proofs.Committing.{committed-kept}
 use Rattle.heap_terms.proofs.Effects.{by_effect, fields_named}
-use Rattle.heap_terms.proofs.Happenings.{by_events, DoesSimple, IsRefused, Builds, Opens, Ends}
+use Rattle.heap_terms.proofs.Happenings.{by_events}
 use Rattle.heap_terms.proofs.Living.{cell_living, fields_living}
 use Rattle.heap_terms.proofs.Opening.{opened-kept}
 use Rattle.heap_terms.proofs.Places.{IfSome-at}

@@ -1,17 +1,16 @@
 -- What lies on pages stays where it may lie while pages are opened and filled, and while fields change.
-use Rattle.std.proofs.Common.{◌≡◌, ◌≢◌, ℕ, zero, suc, ◌+◌, ◌-◌, ◌*◌, ◌/◌, ◌%◌, ◌<◌, ◌≤◌, List, [], ◌∷◌, ◌++◌, length, Option, Some, None, Bool, true, false, ◌⊎◌, inl, inr, refl, sym, ◌∙◌, subst, ap, arith, get_or, set}
-use Rattle.std.proofs.lemmas.Bool.{cases_lt, cases_Bool, cases_eq, cases_order, leb-true, leb-false, le-leb, lt-leb, false≢true}
-use Rattle.std.specs.Prelude.{IfSome, IsSome, if◌then◌else◌, nat_le}
+use Rattle.std.proofs.Common.{◌≡◌, ◌≢◌, ℕ, ◌+◌, ◌*◌, ◌/◌, ◌%◌, ◌<◌, ◌≤◌, List, length, true, false, inl, inr, refl, sym, ◌∙◌, subst, arith}
+use Rattle.std.proofs.lemmas.Bool.{cases_Bool, leb-true, leb-false}
 use Rattle.heap_terms.specs.declared.kinds.Kind.{Kind}
 use Rattle.heap_terms.specs.declared.kinds.Kind.TheVariants as kinds
 use Rattle.heap_terms.specs.declared.kinds.PageType.{PageType}
 use Rattle.heap_terms.specs.declared.pages.Entry.{Entry}
 use Rattle.heap_terms.specs.declared.pages.Entry.TheVariants.{Free, Used}
-use Rattle.heap_terms.specs.Heap.{NamedHeap, Thread, object_at, entry_at, fill_of, open_page}
-use Rattle.heap_terms.specs.Layout.{page_words, page_type_of, size_of, size_with_header}
-use Rattle.heap_terms.specs.Objects.{Object, Contents, ConsOf, VectorOf, InstanceOf, ClosureOf, WordsOf, WeakTo, TableOf, kind_of, payload_of, words_of_object}
+use Rattle.heap_terms.specs.Heap.{entry_at}
+use Rattle.heap_terms.specs.Layout.{page_words, size_of}
+use Rattle.heap_terms.specs.Objects.{Object, kind_of, payload_of, words_of_object}
 use Rattle.heap_terms.specs.Regions.{is_small, pages_needed}
-use Rattle.heap_terms.specs.WellFormed.{IsOnPage, IsPageOfRun, IsPlaced, AreApart, IsFill, IsOpenPage, IsOpenRunPage, IsOpenRun, IsThread}
+use Rattle.heap_terms.specs.WellFormed.{IsOnPage, IsPageOfRun, IsPlaced, AreApart, IsOpenPage, IsOpenRunPage, IsOpenRun}
 
 -- a size is an even number from 2 on
 pub size_even : (kind : Kind) (n : ℕ) → size_of kind n % 2 ≡ 0

@@ -1,8 +1,8 @@
 -- A well-formed heap stays well-formed when a thread's cells change, when it goes on in its script and when it ends.
-use Rattle.std.proofs.Common.{◌≡◌, ◌≢◌, ℕ, zero, suc, ◌+◌, ◌*◌, ◌<◌, ◌≤◌, List, [], ◌∷◌, ◌++◌, length, Option, Some, None, Bool, true, false, ◌⊎◌, inl, inr, refl, sym, ◌∙◌, subst, ap, arith, get_or, set, replicate, map}
-use Rattle.std.proofs.lemmas.Bool.{cases_lt, cases_eq}
+use Rattle.std.proofs.Common.{◌≡◌, ◌≢◌, ℕ, ◌+◌, ◌<◌, ◌≤◌, List, [], length, Option, Some, None, Bool, true, false, ◌⊎◌, inl, inr, refl, sym, ◌∙◌, subst, arith, set, replicate, map}
+use Rattle.std.proofs.lemmas.Bool.{cases_lt}
 use Rattle.std.proofs.lemmas.List.{length-set, length-replicate, length-map, get_or-replicate, get_or_past, get_or-map, get_or-set_same, get_or-set_other}
-use Rattle.std.specs.Prelude.{IfSome, IsSome}
+use Rattle.std.specs.Prelude.{IfSome}
 use Rattle.heap_terms.specs.declared.cells.Cell.{Cell}
 use Rattle.heap_terms.specs.declared.cells.Cell.TheVariants.{Stack, Exact, Shared}
 use Rattle.heap_terms.specs.declared.cells.Value.{Value}
@@ -12,10 +12,10 @@ use Rattle.heap_terms.specs.declared.pages.Entry.{Entry}
 use Rattle.heap_terms.specs.declared.pages.Entry.TheVariants as entries
 use Rattle.heap_terms.specs.declared.programs.Program.{Program}
 use Rattle.heap_terms.specs.Cells.{with_cell}
-use Rattle.heap_terms.specs.Heap.{NamedHeap, Thread, start, thread_at, with_thread, fresh_thread, ended_thread, entry_at, fill_of, object_at, open_page, zero_value}
+use Rattle.heap_terms.specs.Heap.{NamedHeap, Thread, start, thread_at, with_thread, fresh_thread, ended_thread, entry_at, open_page}
 use Rattle.heap_terms.specs.Histories.{advance}
 use Rattle.heap_terms.specs.Objects.{Object}
-use Rattle.heap_terms.specs.WellFormed.{IsWellFormed, IsThread, IsLiving, IsOpenPage, IsOpenRun, IsFill}
+use Rattle.heap_terms.specs.WellFormed.{IsWellFormed, IsThread, IsLiving, IsOpenPage, IsOpenRun}
 use Rattle.heap_terms.proofs.Places.{set_cases, IfSome-at}
 use Rattle.heap_terms.proofs.Living.{AreLiving-set, AreLiving-zeros}
 

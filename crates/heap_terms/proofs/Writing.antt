@@ -1,19 +1,19 @@
 -- A well-formed heap stays well-formed when a field of an object changes.
-use Rattle.std.proofs.Common.{◌≡◌, ◌≢◌, ℕ, zero, suc, ◌+◌, ◌*◌, ◌<◌, ◌≤◌, List, [], ◌∷◌, ◌++◌, length, Option, Some, None, Bool, true, false, ◌⊎◌, inl, inr, refl, sym, ◌∙◌, subst, ap, arith, get_or, set}
-use Rattle.std.specs.Prelude.{IfSome, IsSome}
+use Rattle.std.proofs.Common.{◌≡◌, ℕ, ◌+◌, ◌*◌, List, Option, Some, None, inl, inr, refl, sym, ◌∙◌, subst, set}
+use Rattle.std.specs.Prelude.{IfSome}
 use Rattle.heap_terms.specs.declared.cells.Value.{Value}
 use Rattle.heap_terms.specs.declared.cells.Value.TheVariants as values
 use Rattle.heap_terms.specs.declared.pages.Entry.{Entry}
 use Rattle.heap_terms.specs.declared.programs.Program.{Program}
-use Rattle.heap_terms.specs.Heap.{NamedHeap, Thread, object_at, entry_at, thread_at}
+use Rattle.heap_terms.specs.Heap.{NamedHeap, Thread, object_at, thread_at}
 use Rattle.heap_terms.specs.Layout.{page_words}
-use Rattle.heap_terms.specs.Objects.{Object, words_of_object}
+use Rattle.heap_terms.specs.Objects.{Object}
 use Rattle.heap_terms.specs.Simple.{with_field, with_field_at}
-use Rattle.heap_terms.specs.WellFormed.{IsWellFormed, IsThread, IsLiving, HoldsLiving, IsPlaced, AreApart, IsOwned, BelongsTo}
+use Rattle.heap_terms.specs.WellFormed.{IsWellFormed, IsThread, IsLiving, HoldsLiving, IsPlaced, AreApart, IsOwned}
 use Rattle.heap_terms.proofs.Places.{set_cases, IfSome-at, IfSome-from}
-use Rattle.heap_terms.proofs.Living.{AllStay, IsLiving-stays, AreLiving-stays, HoldsLiving-stays, with_field_living, write_stays}
+use Rattle.heap_terms.proofs.Living.{AllStay, AreLiving-stays, HoldsLiving-stays, with_field_living, write_stays}
 use Rattle.heap_terms.proofs.Staying.{IsSameShape, IsPlaced-shape, AreApart-shape, same_words}
-use Rattle.heap_terms.proofs.Effects.{with_field-kind, with_field-payload, fields_named}
+use Rattle.heap_terms.proofs.Effects.{with_field-kind, with_field-payload}
 
 pub same_shape : (o : Object) → IsSameShape o o
 same_shape o = record { place = refl; generation = refl; kind = refl; payload = refl }

@@ -8,7 +8,7 @@ use Rattle.heap_terms.specs.Complete.{IsComplete}
 use Rattle.heap_terms.specs.Heap.{NamedHeap, object_at, thread_at}
 use Rattle.heap_terms.specs.Histories.{IsNext, after, next, Lawful, LawfulFrom, replay, replay_from, thread_of, script_of}
 use Rattle.heap_terms.specs.Left.{all_left}
-use Rattle.heap_terms.specs.Objects.{Object, kind_of}
+use Rattle.heap_terms.specs.Objects.{kind_of}
 use Rattle.heap_terms.specs.Order.{commands_of, events_of, EndsOnce}
 use Rattle.heap_terms.specs.Plain.{IsPlain}
 use Rattle.heap_terms.specs.Runs.{IsRunOf}

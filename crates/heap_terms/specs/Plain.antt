@@ -1,5 +1,5 @@
 -- What stands in the events of a valid program: the commands that are built, and numbers in their ranges.
-use Rattle.std.specs.Prelude.{ℕ, ◌<◌, ◌≤◌}
+use Rattle.std.specs.Prelude.{◌<◌, ◌≤◌}
 use Rattle.heap_terms.specs.declared.answers.Answer.{Answer}
 use Rattle.heap_terms.specs.declared.answers.Answer.TheVariants.{Done, Val, Word, Yes, No, Absent, Live, Broken, Count, Ran, Page, Stat, Placed, Refused}
 use Rattle.heap_terms.specs.declared.cells.Value.{Value}
