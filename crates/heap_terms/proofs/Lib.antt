@@ -23,3 +23,4 @@ pub mod Completing
 pub mod Running
 pub mod Ordering
 pub mod Ranges
+pub mod Determined

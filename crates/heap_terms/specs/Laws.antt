@@ -1,5 +1,5 @@
 -- Laws of the definitions, each for every program: what a reader may rely on beside the definitions themselves.
-use Rattle.std.specs.Prelude.{◌≡◌, ◌↔◌, ℕ, ◌+◌, ◌<◌, ◌≤◌, List, [], ◌∷◌, ◌++◌, length, All, IfSome, false}
+use Rattle.std.specs.Prelude.{◌≡◌, ◌↔◌, ℕ, ◌+◌, ◌<◌, ◌≤◌, List, [], ◌∷◌, ◌++◌, length, map, All, IfSome, false}
 use Rattle.heap_terms.specs.declared.events.Event.{Event}
 use Rattle.heap_terms.specs.declared.kinds.Kind.TheVariants as kinds
 use Rattle.heap_terms.specs.declared.pages.Next.TheVariants as nexts
@@ -64,3 +64,9 @@ ScriptsAreDone = (p : Program) (h : List Event) (t : ℕ) → IsValid p → IsCo
 -- every event of a lawful history of a valid program is plain
 abbrev pub EventsArePlain : Type 0
 EventsArePlain = (p : Program) (h : List Event) → IsValid p → Lawful p h → All IsPlain h
+
+-- what a thread may do next is one event, so that the order of the threads determines a history
+abbrev pub OrderDetermines : Type 0
+OrderDetermines =
+    ((p : Program) (a : NamedHeap) (e f : Event) → IsNext p a e → IsNext p a f → thread_of e ≡ thread_of f → e ≡ f)
+    × ((p : Program) (h g : List Event) → Lawful p h → Lawful p g → map thread_of h ≡ map thread_of g → h ≡ g)

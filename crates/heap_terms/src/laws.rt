@@ -1,7 +1,7 @@
 //! Theorems about the definitions of `specs/`. Each is the contract of a function that does
 //! nothing: that it is accepted says that the law holds, of every program and every history.
 
-ghost use Rattle.heap_terms.specs.Laws.{HistoriesGrow, HeapsAreWellFormed, HeapsAreSmall, NobodyCollects, HistoriesEnd, ThreadsGoOn, HistoriesComplete, RunsAreLawful, ScriptsAreDone, EventsArePlain};
+ghost use Rattle.heap_terms.specs.Laws.{HistoriesGrow, HeapsAreWellFormed, HeapsAreSmall, NobodyCollects, HistoriesEnd, ThreadsGoOn, HistoriesComplete, RunsAreLawful, ScriptsAreDone, EventsArePlain, OrderDetermines};
 
 /// An event that may come next makes a lawful history one longer, and the heap at its end is the
 /// one after that event.
@@ -56,4 +56,10 @@ pub fn scripts_are_done()
 /// such a command gives, and numbers in their ranges.
 pub fn events_are_plain()
     ensures { EventsArePlain }
+{}
+
+/// What a thread may do next is one event: two histories with the same threads in the same order
+/// are the same.
+pub fn order_determines()
+    ensures { OrderDetermines }
 {}
