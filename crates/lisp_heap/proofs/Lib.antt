@@ -13,3 +13,9 @@ pub mod Commands
 pub mod Nexts
 pub mod Stepping
 pub mod Agreeing
+pub mod Wishing
+pub mod Elsewhere
+pub mod Refusing
+pub mod RegionLemmas
+pub mod PlacingLemmas
+pub mod Lending

@@ -15,7 +15,7 @@ use Rattle.heap_terms.specs.Words.{word_of}
 use Rattle.heap_terms.proofs.Places.{IfSome-at, IfSome-from, set_cases}
 use Rattle.lisp_heap.specs.CellsView.{CellsView}
 use Rattle.lisp_heap.specs.Outcome.{Makes, PutsInCell, PutsInCons, cells_after, words_after}
-use Rattle.lisp_heap.specs.Standing.{Parts, Holds, LabelsStand}
+use Rattle.lisp_heap.specs.Standing.{Parts, Holds, CellsStand, LabelsStand}
 use Rattle.lisp_heap.specs.State.{state_of}
 use Rattle.lisp_heap.specs.declared.outcome.Change.{Change}
 use Rattle.lisp_heap.specs.declared.outcome.Change.TheVariants as changes
@@ -96,3 +96,14 @@ Holds-thread a v t th state stack exact same holds = record {
   cells = CellsStand-with_thread a t th v.cells stack exact holds.cells;
   states = states_set a v.states t th state holds.states same;
   commits = holds.commits }
+
+-- parts that are the same stand for the same heap
+pub Holds-same : (a : NamedHeap) (v w : Parts) → w.words ≡ v.words → w.pages ≡ v.pages → w.labels ≡ v.labels → w.cells ≡ v.cells →
+    w.states ≡ v.states → w.commits ≡ v.commits → Holds a v → Holds a w
+Holds-same a v w words pages labels cells states commits h = record {
+  words = subst (λ (x : List ℕ). WordsStand a x) (sym words) h.words;
+  pages = pages ∙ h.pages;
+  labels = subst (λ (x : List ℕ). LabelsStand a x) (sym labels) h.labels;
+  cells = subst (λ (x : CellsView). CellsStand a x) (sym cells) h.cells;
+  states = states ∙ h.states;
+  commits = commits ∙ h.commits }

@@ -123,6 +123,7 @@ impl World {
         ensures err { OnErr result (self.new ≡ self.old) }
         ensures kept { OnErr result (parcel.new ≡ parcel.old) }
     {
+        let _program = &self.program;
         let t = parcel.owner();
         let index = parcel.next_cons();
         let name = self.place(t, index)?;

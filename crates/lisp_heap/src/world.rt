@@ -60,6 +60,14 @@ impl World {
         self.program.threads.len() as u32
     }
 
+    /// The script that it runs. It takes no memory.
+    pub fn program(&self) -> &Program
+        ensures program { result.now ≡ self.now.program }
+        ensures valid { IsValid self.now.program }
+    {
+        &self.program
+    }
+
     /// What has happened so far: a lawful history of a valid program. It takes no memory.
     pub fn history(&self) -> &[Event]
         ensures history { result.now ≡ self.now.history }

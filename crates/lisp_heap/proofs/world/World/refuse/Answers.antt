@@ -1,34 +1,94 @@
-use Rattle.std.proofs.Common.{rules, ◌≡◌, ◌≢◌, ◌<◌, ℕ, Some, length, OnOk, OnErr, IfOk, ◌+◌, ◌-◌, ◌*◌, ◌≤◌, ◌/◌, ◌%◌, Bool, true, false, nat_eq, nat_lt, List, [], ◌∷◌, ◌++◌, slice_index_or, slice_set, bit_and, bit_or, Fits, w8, w32, w64, Bor, MutBor}
+-- `!exhausted` is one event.
+use Rattle.std.proofs.Common.{◌≡◌, ◌≢◌, ℕ, ◌<◌, ◌≤◌, ◌+◌, ◌*◌, ◌/◌, ◌%◌, ◌^◌, ◌++◌, ◌∷◌, [], length, arith, subst, ap, ◌∙◌, sym, refl, Option, Some, None, IsSome, false, length-set}
+use Rattle.heap_terms.specs.declared.answers.Answer.TheVariants as answers
+use Rattle.heap_terms.specs.declared.answers.Refusal.TheVariants.{Exhausted}
 use Rattle.heap_terms.specs.declared.commands.Command.{Command}
-use Rattle.heap_terms.specs.declared.pages.Next.{Next}
-use Rattle.heap_terms.specs.Histories.{command_at}
-use Rattle.heap_terms.specs.Regions.{HasNoRun, IsLowestRun}
-use Rattle.lisp_heap.specs.Agreement.{Agrees, IsBuiltFor, OthersAgree, Lends}
-use Rattle.lisp_heap.specs.Events.{Happens}
-use Rattle.lisp_heap.specs.Parcels.{ParcelView, empty_parcel, with_accepted, with_cons}
-use Rattle.lisp_heap.specs.View.{heap_of, next_of}
+use Rattle.heap_terms.specs.declared.commands.Command.TheVariants as commands
+use Rattle.heap_terms.specs.declared.events.Event.{Event}
+use Rattle.heap_terms.specs.declared.events.Event.TheVariants.{Did, Opened}
+use Rattle.heap_terms.specs.declared.kinds.Kind.TheVariants as kinds
+use Rattle.heap_terms.specs.declared.kinds.PageType.TheVariants as types
+use Rattle.heap_terms.specs.declared.pages.Next.TheVariants as nexts
+use Rattle.heap_terms.specs.Histories.{command_at, after}
+use Rattle.heap_terms.specs.Regions.{HasNoRun, IsLowestRun, place_for, is_free, with_fill}
+use Rattle.heap_terms.specs.Heap.{entry_at}
+use Rattle.heap_terms.specs.Valid.{IsCell}
+use Rattle.heap_terms.specs.Words.{word_of}
+use Rattle.heap_terms.specs.Cells.{cell_value}
+use Rattle.heap_terms.proofs.Places.{IsSome-value}
+use Rattle.heap_terms.proofs.Scripts.{script_built}
+use Rattle.lisp_heap.specs.Agreement.{Agrees}
+use Rattle.lisp_heap.specs.Parcels.{ParcelView, with_cons, with_accepted}
+use Rattle.lisp_heap.specs.Sound.{view_of}
+use Rattle.lisp_heap.specs.Standing.{Holds}
+use Rattle.lisp_heap.specs.View.{View, heap_of, next_of}
+use Rattle.lisp_heap.specs.declared.world.World.TheInside.{Inside}
+use Rattle.lisp_heap.proofs.Soundness.{heap, states_length, cells_room}
+use Rattle.lisp_heap.proofs.Stepping.{state_room, sound_after, happens_after, agrees_after}
+use Rattle.lisp_heap.proofs.WordReading.{thread_in}
+use Rattle.lisp_heap.proofs.Refusing.{refused_next, refused_holds, refused_agrees}
+use Rattle.lisp_heap.proofs.Wishing.{open_command}
 use Rattle.lisp_heap.proofs.world.World.refuse.Goals as goal
 
--- src/allocating.rt:73:13
 pub unwrap-command-requires : goal.unwrap-command-requires
-unwrap-command-requires c = ?
+unwrap-command-requires c =
+    subst (λ (o : Option Command). IsSome o) (sym c.command.ensures)
+      (subst (λ (w : View). IsSome (command_at w.program (heap_of w) c.args.t)) c.self.view_is
+        (open_command c.self.inside.program (heap c.self.inside) c.args.t (subst (λ (w : View). next_of w c.args.t ≡ nexts.Open) (sym c.self.view_is) c.requires.opens)))
 
--- src/allocating.rt:79:9
 pub advance-requires-clause-thread : goal.advance-requires-clause-thread
-advance-requires-clause-thread c = ?
+advance-requires-clause-thread c =
+    omega (arith, thread_in c.self.inside c.args.self.now c.self.view_is c.args.t c.requires.thread, states_length c.self.inside c.self.invariant)
 
--- src/allocating.rt:79:9
 pub advance-requires-clause-room : goal.advance-requires-clause-room
-advance-requires-clause-room c = ?
+advance-requires-clause-room c =
+    let s = c.self.inside in
+    let lt = thread_in s c.args.self.now c.self.view_is c.args.t c.requires.thread in
+    let at : command_at s.program (heap s) c.args.t ≡ Some c.unwrap-command.result =
+      subst (λ (w : View). command_at w.program (heap_of w) c.args.t ≡ Some c.unwrap-command.result) (sym c.self.view_is) (sym c.command.ensures ∙ c.unwrap-command.ensures) in
+    let opens = subst (λ (w : View). next_of w c.args.t ≡ nexts.Open) (sym c.self.view_is) c.requires.opens in
+    state_room s c.self.invariant c.args.t c.unwrap-command.result lt at
 
--- src/allocating.rt:65:5
 pub invariant_of-self-2 : goal.invariant_of-self-2
-invariant_of-self-2 c = ?
+invariant_of-self-2 c =
+    let s = c.self.inside in
+    let lt = thread_in s c.args.self.now c.self.view_is c.args.t c.requires.thread in
+    let at : command_at s.program (heap s) c.args.t ≡ Some c.unwrap-command.result =
+      subst (λ (w : View). command_at w.program (heap_of w) c.args.t ≡ Some c.unwrap-command.result) (sym c.self.view_is) (sym c.command.ensures ∙ c.unwrap-command.ensures) in
+    let opens = subst (λ (w : View). next_of w c.args.t ≡ nexts.Open) (sym c.self.view_is) c.requires.opens in
+    let none = subst (λ (w : View). HasNoRun (heap_of w).pages 1) (sym c.self.view_is) c.requires.none in
+    let e = Did c.args.t c.unwrap-command.result (answers.Refused Exhausted) in
+    let now : Inside = record { program = s.program; space = s.space; pages = s.pages; labels = s.labels; cells = s.cells;
+      states = c.advance.new.states; commits = s.commits; history = c.push.new.self } in
+    let held : Holds (after s.program (heap s) e) (record {
+        words = s.space; pages = s.pages; labels = s.labels; cells = s.cells; states = c.advance.new.states; commits = s.commits }) =
+      rw c.advance.ensures (refused_holds s c.self.invariant c.args.t c.unwrap-command.result lt at opens) in
+    sound_after s now e c.self.invariant refl c.in_ok-push.ensures.items
+      (refused_next s c.self.invariant c.args.t c.unwrap-command.result lt at opens none) held
 
--- src/allocating.rt:65:5
 pub returns-clause-ok : goal.returns-clause-ok
-returns-clause-ok c = ?
+returns-clause-ok c =
+    let s = c.self.inside in
+    let lt = thread_in s c.args.self.now c.self.view_is c.args.t c.requires.thread in
+    let at : command_at s.program (heap s) c.args.t ≡ Some c.unwrap-command.result =
+      subst (λ (w : View). command_at w.program (heap_of w) c.args.t ≡ Some c.unwrap-command.result) (sym c.self.view_is) (sym c.command.ensures ∙ c.unwrap-command.ensures) in
+    let opens = subst (λ (w : View). next_of w c.args.t ≡ nexts.Open) (sym c.self.view_is) c.requires.opens in
+    let none = subst (λ (w : View). HasNoRun (heap_of w).pages 1) (sym c.self.view_is) c.requires.none in
+    let e = Did c.args.t c.unwrap-command.result (answers.Refused Exhausted) in
+    let now : Inside = record { program = s.program; space = s.space; pages = s.pages; labels = s.labels; cells = s.cells;
+      states = c.advance.new.states; commits = s.commits; history = c.push.new.self } in
+    happens_after s now c.args.self.now c.args.t e c.self.view_is refl c.in_ok-push.ensures.items refl
+      (refused_next s c.self.invariant c.args.t c.unwrap-command.result lt at opens none)
 
--- src/allocating.rt:65:5
 pub returns-clause-agrees : goal.returns-clause-agrees
-returns-clause-agrees c = ?
+returns-clause-agrees c = λ q. (
+    let s = c.self.inside in
+    let lt = thread_in s c.args.self.now c.self.view_is c.args.t c.requires.thread in
+    let at : command_at s.program (heap s) c.args.t ≡ Some c.unwrap-command.result =
+      subst (λ (w : View). command_at w.program (heap_of w) c.args.t ≡ Some c.unwrap-command.result) (sym c.self.view_is) (sym c.command.ensures ∙ c.unwrap-command.ensures) in
+    let opens = subst (λ (w : View). next_of w c.args.t ≡ nexts.Open) (sym c.self.view_is) c.requires.opens in
+    let e = Did c.args.t c.unwrap-command.result (answers.Refused Exhausted) in
+    let now : Inside = record { program = s.program; space = s.space; pages = s.pages; labels = s.labels; cells = s.cells;
+      states = c.advance.new.states; commits = s.commits; history = c.push.new.self } in
+    agrees_after s now c.args.self.now e q q c.self.view_is refl c.in_ok-push.ensures.items
+      (refused_agrees s c.self.invariant c.args.t c.unwrap-command.result lt at opens q))

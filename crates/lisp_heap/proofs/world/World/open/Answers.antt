@@ -1,0 +1,106 @@
+-- The opening of a region is one event.
+use Rattle.std.proofs.Common.{◌≡◌, ◌≢◌, ℕ, ◌<◌, ◌≤◌, ◌+◌, ◌*◌, ◌/◌, ◌%◌, ◌^◌, ◌++◌, ◌∷◌, [], length, arith, subst, ap, ◌∙◌, sym, refl, Option, Some, None, IsSome, false, length-set}
+use Rattle.heap_terms.specs.declared.answers.Answer.TheVariants as answers
+use Rattle.heap_terms.specs.declared.answers.Refusal.TheVariants.{Exhausted}
+use Rattle.heap_terms.specs.declared.commands.Command.{Command}
+use Rattle.heap_terms.specs.declared.commands.Command.TheVariants as commands
+use Rattle.heap_terms.specs.declared.events.Event.{Event}
+use Rattle.heap_terms.specs.declared.events.Event.TheVariants.{Did, Opened}
+use Rattle.heap_terms.specs.declared.kinds.Kind.TheVariants as kinds
+use Rattle.heap_terms.specs.declared.kinds.PageType.TheVariants as types
+use Rattle.heap_terms.specs.declared.pages.Next.TheVariants as nexts
+use Rattle.heap_terms.specs.Histories.{command_at, after}
+use Rattle.heap_terms.specs.Regions.{HasNoRun, IsLowestRun, place_for, is_free, with_fill}
+use Rattle.heap_terms.specs.Heap.{entry_at}
+use Rattle.heap_terms.specs.Valid.{IsCell}
+use Rattle.heap_terms.specs.Words.{word_of}
+use Rattle.heap_terms.specs.Cells.{cell_value}
+use Rattle.heap_terms.proofs.Places.{IsSome-value}
+use Rattle.heap_terms.proofs.Scripts.{script_built}
+use Rattle.lisp_heap.specs.Agreement.{Agrees}
+use Rattle.lisp_heap.specs.Parcels.{ParcelView, with_cons, with_accepted}
+use Rattle.lisp_heap.specs.Sound.{view_of}
+use Rattle.lisp_heap.specs.Standing.{Holds}
+use Rattle.lisp_heap.specs.View.{View, heap_of, next_of}
+use Rattle.lisp_heap.specs.declared.world.World.TheInside.{Inside}
+use Rattle.lisp_heap.proofs.Soundness.{heap, states_length, cells_room}
+use Rattle.lisp_heap.proofs.Stepping.{state_room, sound_after, happens_after, agrees_after}
+use Rattle.lisp_heap.proofs.WordReading.{thread_in}
+use Rattle.std.proofs.Common.{List}
+use Rattle.heap_terms.specs.declared.pages.Entry.{Entry}
+use Rattle.lisp_heap.proofs.RegionLemmas.{opened_next, opened_holds, opened_agrees, opened_others}
+use Rattle.lisp_heap.proofs.Soundness.{well_formed}
+use Rattle.lisp_heap.proofs.Wishing.{open_command}
+use Rattle.lisp_heap.proofs.world.World.open.Goals as goal
+
+pub open-requires-clause-most : goal.open-requires-clause-most
+open-requires-clause-most c =
+    let s = c.self.inside in
+    let lt = thread_in s c.args.self.now c.self.view_is c.args.t c.requires.thread in
+    let opens = subst (λ (w : View). next_of w c.args.t ≡ nexts.Open) (sym c.self.view_is) c.requires.opens in
+    let found = IsSome-value (command_at s.program (heap s) c.args.t) (open_command s.program (heap s) c.args.t opens) in
+    let lowest = subst (λ (w : View). IsLowestRun (heap_of w).pages c.args.first 1) (sym c.self.view_is) c.requires.run in
+    omega (arith, lowest.run.inside, (well_formed s c.self.invariant).pages_length, c.self.invariant.valid.pages_most)
+
+pub open_cons-requires : goal.open_cons-requires
+open_cons-requires c =
+    omega (arith, thread_in c.self.inside c.args.self.now c.self.view_is c.args.t c.requires.thread, states_length c.self.inside c.self.invariant)
+
+pub invariant_of-self-2 : goal.invariant_of-self-2
+invariant_of-self-2 c =
+    let s = c.self.inside in
+    let lt = thread_in s c.args.self.now c.self.view_is c.args.t c.requires.thread in
+    let opens = subst (λ (w : View). next_of w c.args.t ≡ nexts.Open) (sym c.self.view_is) c.requires.opens in
+    let found = IsSome-value (command_at s.program (heap s) c.args.t) (open_command s.program (heap s) c.args.t opens) in
+    let lowest = subst (λ (w : View). IsLowestRun (heap_of w).pages c.args.first 1) (sym c.self.view_is) c.requires.run in
+    let e = Opened c.args.t types.Cons c.args.first 1 in
+    let now : Inside = record { program = s.program; space = s.space; pages = c.take_run.new.self; labels = s.labels; cells = s.cells;
+      states = c.open_cons.new.states; commits = s.commits; history = c.push.new.self } in
+    let added : c.push.new.self.items ≡ c.reserve.new.self.items ++ e ∷ [] = rw c.unwrap.ensures at c.push.ensures.items in
+    let pushed : c.push.new.self.items ≡ s.history.items ++ e ∷ [] = added ∙ ap (λ (es : List Event). es ++ e ∷ []) c.reserve.ensures.items in
+    let held : Holds (after s.program (heap s) e) (record {
+        words = s.space; pages = c.take_run.new.self; labels = s.labels; cells = s.cells; states = c.open_cons.new.states; commits = s.commits }) =
+      rw (c.take_run.ensures.opened refl, c.open_cons.ensures) (opened_holds s c.self.invariant c.args.t (found.0) c.args.first lt found.1 opens lowest) in
+    sound_after s now e c.self.invariant refl pushed (opened_next s c.self.invariant c.args.t (found.0) c.args.first lt found.1 opens lowest) held
+
+pub returns-clause-ok : goal.returns-clause-ok
+returns-clause-ok c =
+    let s = c.self.inside in
+    let lt = thread_in s c.args.self.now c.self.view_is c.args.t c.requires.thread in
+    let opens = subst (λ (w : View). next_of w c.args.t ≡ nexts.Open) (sym c.self.view_is) c.requires.opens in
+    let found = IsSome-value (command_at s.program (heap s) c.args.t) (open_command s.program (heap s) c.args.t opens) in
+    let lowest = subst (λ (w : View). IsLowestRun (heap_of w).pages c.args.first 1) (sym c.self.view_is) c.requires.run in
+    let e = Opened c.args.t types.Cons c.args.first 1 in
+    let now : Inside = record { program = s.program; space = s.space; pages = c.take_run.new.self; labels = s.labels; cells = s.cells;
+      states = c.open_cons.new.states; commits = s.commits; history = c.push.new.self } in
+    let added : c.push.new.self.items ≡ c.reserve.new.self.items ++ e ∷ [] = rw c.unwrap.ensures at c.push.ensures.items in
+    let pushed : c.push.new.self.items ≡ s.history.items ++ e ∷ [] = added ∙ ap (λ (es : List Event). es ++ e ∷ []) c.reserve.ensures.items in
+    happens_after s now c.args.self.now c.args.t e c.self.view_is refl pushed refl (opened_next s c.self.invariant c.args.t (found.0) c.args.first lt found.1 opens lowest)
+
+pub returns-clause-agrees : goal.returns-clause-agrees
+returns-clause-agrees c = λ q owner. (
+    let s = c.self.inside in
+    let lt = thread_in s c.args.self.now c.self.view_is c.args.t c.requires.thread in
+    let opens = subst (λ (w : View). next_of w c.args.t ≡ nexts.Open) (sym c.self.view_is) c.requires.opens in
+    let found = IsSome-value (command_at s.program (heap s) c.args.t) (open_command s.program (heap s) c.args.t opens) in
+    let lowest = subst (λ (w : View). IsLowestRun (heap_of w).pages c.args.first 1) (sym c.self.view_is) c.requires.run in
+    let e = Opened c.args.t types.Cons c.args.first 1 in
+    let now : Inside = record { program = s.program; space = s.space; pages = c.take_run.new.self; labels = s.labels; cells = s.cells;
+      states = c.open_cons.new.states; commits = s.commits; history = c.push.new.self } in
+    let added : c.push.new.self.items ≡ c.reserve.new.self.items ++ e ∷ [] = rw c.unwrap.ensures at c.push.ensures.items in
+    let pushed : c.push.new.self.items ≡ s.history.items ++ e ∷ [] = added ∙ ap (λ (es : List Event). es ++ e ∷ []) c.reserve.ensures.items in
+    agrees_after s now c.args.self.now e q (with_cons q c.args.first) c.self.view_is refl pushed (opened_agrees s c.self.invariant c.args.t (found.0) c.args.first lt found.1 opens lowest q owner))
+
+pub returns-clause-others : goal.returns-clause-others
+returns-clause-others c = λ q other. (
+    let s = c.self.inside in
+    let lt = thread_in s c.args.self.now c.self.view_is c.args.t c.requires.thread in
+    let opens = subst (λ (w : View). next_of w c.args.t ≡ nexts.Open) (sym c.self.view_is) c.requires.opens in
+    let found = IsSome-value (command_at s.program (heap s) c.args.t) (open_command s.program (heap s) c.args.t opens) in
+    let lowest = subst (λ (w : View). IsLowestRun (heap_of w).pages c.args.first 1) (sym c.self.view_is) c.requires.run in
+    let e = Opened c.args.t types.Cons c.args.first 1 in
+    let now : Inside = record { program = s.program; space = s.space; pages = c.take_run.new.self; labels = s.labels; cells = s.cells;
+      states = c.open_cons.new.states; commits = s.commits; history = c.push.new.self } in
+    let added : c.push.new.self.items ≡ c.reserve.new.self.items ++ e ∷ [] = rw c.unwrap.ensures at c.push.ensures.items in
+    let pushed : c.push.new.self.items ≡ s.history.items ++ e ∷ [] = added ∙ ap (λ (es : List Event). es ++ e ∷ []) c.reserve.ensures.items in
+    agrees_after s now c.args.self.now e q q c.self.view_is refl pushed (opened_others s c.self.invariant c.args.t (found.0) c.args.first lt found.1 opens lowest q other))
