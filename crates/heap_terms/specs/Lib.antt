@@ -12,3 +12,4 @@ pub mod Text
 pub mod WellFormed
 pub mod Stands
 pub mod PageRuns
+pub mod Fresh
