@@ -1,24 +1,20 @@
 -- The commit of a small object, in plain terms, and that it keeps a heap well-formed.
-use Rattle.std.proofs.Common.{◌≡◌, ◌≢◌, ℕ, zero, suc, ◌+◌, ◌*◌, ◌<◌, ◌≤◌, List, [], ◌∷◌, ◌++◌, length, Option, Some, None, Bool, true, false, ◌⊎◌, inl, inr, refl, sym, ◌∙◌, subst, ap, arith, get_or, set, replicate, eqb}
+use Rattle.std.proofs.Common.{◌≡◌, ℕ, ◌+◌, ◌*◌, ◌<◌, ◌≤◌, List, [], ◌∷◌, ◌++◌, length, Option, Some, None, true, refl, sym, ◌∙◌, subst, ap, set}
 use Rattle.std.proofs.lemmas.Bool.{eq-eqb, leb-true, false≢true}
 use Rattle.std.proofs.lemmas.List.{length-replicate, set-get_or, get_or_push}
-use Rattle.std.specs.Prelude.{IfSome, IsSome, if◌then◌else◌, ◌==◌, nat_le, unwrap_or}
-use Rattle.heap_terms.specs.declared.cells.Cell.{Cell}
-use Rattle.heap_terms.specs.declared.cells.Value.{Value}
 use Rattle.heap_terms.specs.declared.cells.Value.TheVariants as values
 use Rattle.heap_terms.specs.declared.commands.Command.{Command}
 use Rattle.heap_terms.specs.declared.commands.Command.TheVariants as commands
 use Rattle.heap_terms.specs.declared.kinds.Kind.{Kind}
-use Rattle.heap_terms.specs.declared.kinds.Kind.TheVariants as kinds
 use Rattle.heap_terms.specs.declared.kinds.PageType.{PageType}
 use Rattle.heap_terms.specs.declared.pages.Entry.{Entry}
 use Rattle.heap_terms.specs.declared.pages.Entry.TheVariants.{Free, Used}
 use Rattle.heap_terms.specs.declared.programs.Program.{Program}
 use Rattle.heap_terms.specs.Cells.{cell_value, with_cell}
-use Rattle.heap_terms.specs.Heap.{NamedHeap, Thread, object_at, entry_at, thread_at, with_thread, open_page, fill_of, ended_thread, fresh_thread, zero_value}
+use Rattle.heap_terms.specs.Heap.{NamedHeap, Thread, entry_at, thread_at, open_page, fill_of, ended_thread, fresh_thread, zero_value}
 use Rattle.heap_terms.specs.Layout.{page_words, page_type_of, size_of}
-use Rattle.heap_terms.specs.Objects.{Object, Contents, ConsOf, VectorOf, InstanceOf, ClosureOf, WordsOf, WeakTo, TableOf, kind_of, payload_of, words_of_object}
-use Rattle.heap_terms.specs.Regions.{Wish, Nothing, Make, wish_of, is_small, entry_has_room, page_has_room, has_room, with_fill, small_page, place_for, pages_after, run_used, counting, committed, destination_of, initial_contents}
+use Rattle.heap_terms.specs.Objects.{Object, kind_of, payload_of, words_of_object}
+use Rattle.heap_terms.specs.Regions.{Make, wish_of, is_small, entry_has_room, page_has_room, has_room, place_for, pages_after, run_used, counting, committed, destination_of, initial_contents}
 use Rattle.heap_terms.specs.WellFormed.{IsWellFormed, IsLiving, HoldsLiving, IsOpenPage}
 use Rattle.heap_terms.proofs.Living.{cell_living, AreLiving-zeros, AreLiving-nil, IsLivingOrUnbound-living}
 use Rattle.heap_terms.proofs.Building.{GoesOn, pages_with, pushed-kept}
@@ -158,8 +154,8 @@ built-kept p a t c kind n seed w l wish small h =
     let type_is : page_type_of (kind_of o.contents) ≡ page_type_of kind = ap (λ (x : Kind). page_type_of x) k in
     let size_is : words_of_object o ≡ size_of kind n = rw (k, m) refl in
     let same : pages_with a.pages o h.page h.fill ≡ set a.pages h.page (Used (page_type_of kind) 0 (h.fill + size_of kind n) h.page 1) =
-        ap (λ (ty : PageType). set a.pages h.page (Used ty 0 (h.fill + words_of_object o) h.page 1)) type_is
-        ∙ ap (λ (size : ℕ). set a.pages h.page (Used (page_type_of kind) 0 (h.fill + size) h.page 1)) size_is in
+    ap (λ (ty : PageType). set a.pages h.page (Used ty 0 (h.fill + words_of_object o) h.page 1)) type_is
+    ∙ ap (λ (size : ℕ). set a.pages h.page (Used (page_type_of kind) 0 (h.fill + size) h.page 1)) size_is in
     subst (λ (pages : List Entry). IsWellFormed p (heap_with a (a.objects ++ Some o ∷ []) a.threads pages)) same kept
 
 -- the commit of a small object

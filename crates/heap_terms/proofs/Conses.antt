@@ -1,29 +1,28 @@
 -- A valid program makes conses alone, since no other word that allocates is read.
-use Rattle.std.proofs.Common.{◌≡◌, ◌≢◌, ℕ, ◌+◌, ◌*◌, ◌<◌, ◌≤◌, List, [], ◌∷◌, ◌++◌, length, Option, Some, None, Bool, true, false, ◌⊎◌, inl, inr, refl, sym, ◌∙◌, subst, ap, arith, get_or, set}
+use Rattle.std.proofs.Common.{◌≡◌, ℕ, ◌+◌, ◌*◌, List, [], ◌∷◌, ◌++◌, Option, Some, None, inl, inr, refl, ◌∙◌, set}
 use Rattle.std.specs.Prelude.{IfSome}
 use Rattle.heap_terms.specs.declared.cells.Value.{Value}
 use Rattle.heap_terms.specs.declared.cells.Value.TheVariants as values
 use Rattle.heap_terms.specs.declared.commands.Command.{Command}
 use Rattle.heap_terms.specs.declared.events.Event.{Event}
-use Rattle.heap_terms.specs.declared.kinds.Kind.{Kind}
 use Rattle.heap_terms.specs.declared.kinds.Kind.TheVariants as kinds
 use Rattle.heap_terms.specs.declared.kinds.PageType.{PageType}
 use Rattle.heap_terms.specs.declared.programs.Program.{Program}
-use Rattle.heap_terms.specs.Cells.{cell_value, with_cell}
+use Rattle.heap_terms.specs.Cells.{cell_value}
 use Rattle.heap_terms.specs.Heap.{NamedHeap, start, thread_at, object_at}
-use Rattle.heap_terms.specs.Histories.{IsNext, after, Lawful, replay, command_at}
+use Rattle.heap_terms.specs.Histories.{IsNext, after, Lawful, replay}
 use Rattle.heap_terms.specs.Layout.{page_words}
 use Rattle.heap_terms.specs.Objects.{Object, Contents, ConsOf, VectorOf, InstanceOf, ClosureOf, WordsOf, WeakTo, TableOf, kind_of}
-use Rattle.heap_terms.specs.Regions.{committed, opened, Make, wish_of}
-use Rattle.heap_terms.specs.Simple.{effect_of, with_field, with_field_at, object_with_field}
+use Rattle.heap_terms.specs.Regions.{opened}
+use Rattle.heap_terms.specs.Simple.{effect_of, with_field, with_field_at}
 use Rattle.heap_terms.specs.Valid.{IsValid}
 use Rattle.heap_terms.specs.WellFormed.{IsWellFormed}
 use Rattle.heap_terms.proofs.Appending.{kept_by_events}
 use Rattle.heap_terms.proofs.Committing.{new_object, initial_kind}
 use Rattle.heap_terms.proofs.Effects.{by_effect, fields_named, with_field-kind}
-use Rattle.heap_terms.proofs.Happenings.{by_events, Builds}
+use Rattle.heap_terms.proofs.Happenings.{by_events}
 use Rattle.heap_terms.proofs.Moving.{built_heap, builds_page}
-use Rattle.heap_terms.proofs.Places.{push_cases, set_cases, IfSome-at, IfSome-from}
+use Rattle.heap_terms.proofs.Places.{push_cases, set_cases, IfSome-at}
 use Rattle.heap_terms.proofs.Scripts.{only_cons_built}
 use Rattle.heap_terms.proofs.Standing.{after-well_formed}
 use Rattle.heap_terms.proofs.Tasks.{with_cell-objects}
@@ -48,15 +47,15 @@ cons_contents (TableOf w b pairs) e = cc
 
 pub AreConses-set : (objects : List (Option Object)) (name : ℕ) (o : Object) → AreConses objects → IsCons o → AreConses (set objects name (Some o))
 AreConses-set objects name o h cons = λ x. elim (set_cases objects name x (Some o) None) [
-      inl same ↦ rw same (h x)
-    | inr new ↦ rw new.2 cons
-    ]
+  | inl same ↦ rw same (h x)
+  | inr new ↦ rw new.2 cons
+]
 
 pub AreConses-push : (objects : List (Option Object)) (o : Object) → AreConses objects → IsCons o → AreConses (objects ++ Some o ∷ [])
 AreConses-push objects o h cons = λ x. elim (push_cases objects x (Some o) None) [
-      inl same ↦ rw same.1 (h x)
-    | inr new ↦ rw new.1 cons
-    ]
+  | inl same ↦ rw same.1 (h x)
+  | inr new ↦ rw new.1 cons
+]
 
 -- a command that allocates nothing leaves conses
 pub effect-conses : (a : NamedHeap) (t : ℕ) (c : Command) → AreConses a.objects → AreConses (effect_of a t c).objects
@@ -64,8 +63,8 @@ effect-conses a t c h = by_effect a t c (λ b. AreConses b.objects) h
     (λ d n e. rw (with_cell-objects a t d (values.Fix n)) h)
     (λ d x i vs e f l. rw (with_cell-objects a t d _) h)
     (λ x i b vs e f l.
-      let parts = fields_named a.objects (cell_value a t x) vs f in
-      put (cell_value a t x) (cell_value a t b) i parts.0 parts.1 parts.2 parts.3)
+    let parts = fields_named a.objects (cell_value a t x) vs f in
+    put (cell_value a t x) (cell_value a t b) i parts.0 parts.1 parts.2 parts.3)
   where
     put : (at v : Value) (i name : ℕ) (o : Object) → at ≡ values.Ref name → object_at a.objects name ≡ Some o → AreConses (with_field_at a.objects at i v)
     put at v i name o is e =
@@ -82,11 +81,11 @@ after-conses p valid a e next w h = by_events p a (λ e b. AreConses b.objects)
     (λ t c answer d. effect-conses a t c h)
     (λ t c answer d. h)
     (λ t c answer kind n seed d.
-      let page = builds_page p a t c kind n seed valid w d.command d.wish d.room in
-      let built = built_heap p a t c kind n valid.auto page.0 page.1 in
-      let o = new_object a t c (page_words * page.1.page + page.1.fill) in
-      let cons : IsCons o = initial_kind a t c kind n seed d.wish ∙ (only_cons_built p t (thread_at a t).done c kind n seed valid d.command d.wish).0 in
-      rw built.objects (AreConses-push a.objects o h cons))
+    let page = builds_page p a t c kind n seed valid w d.command d.wish d.room in
+    let built = built_heap p a t c kind n valid.auto page.0 page.1 in
+    let o = new_object a t c (page_words * page.1.page + page.1.fill) in
+    let cons : IsCons o = initial_kind a t c kind n seed d.wish ∙ (only_cons_built p t (thread_at a t).done c kind n seed valid d.command d.wish).0 in
+    rw built.objects (AreConses-push a.objects o h cons))
     (λ t ty first k d. rw (opened-objects a t ty first k) h)
     (λ t d. h)
     e next

@@ -1,34 +1,22 @@
 -- A valid program makes at most 20,000 objects, and all of them are conses.
-use Rattle.std.proofs.Common.{◌≡◌, ◌≢◌, ℕ, zero, suc, ◌+◌, ◌*◌, ◌<◌, ◌≤◌, List, [], ◌∷◌, ◌++◌, length, map, Option, Some, None, Bool, true, false, ◌⊎◌, inl, inr, refl, sym, ◌∙◌, subst, ap, arith, get_or, set}
-use Rattle.std.proofs.lemmas.Bool.{cases_lt, cases_eq, cases_Bool, false≢true}
+use Rattle.std.proofs.Common.{◌≡◌, ℕ, ◌+◌, ◌<◌, ◌≤◌, List, [], length, map, Bool, true, inl, inr, refl, sym, ◌∙◌, subst, ap, arith, get_or}
+use Rattle.std.proofs.lemmas.Bool.{cases_lt, cases_eq, false≢true}
 use Rattle.std.proofs.lemmas.List.{length-map, get_or-map, get_or_past}
 use Rattle.std.specs.List.{range_with_len, sum_by}
-use Rattle.std.specs.Prelude.{IfSome}
-use Rattle.heap_terms.specs.declared.cells.Value.{Value}
 use Rattle.heap_terms.specs.declared.commands.Command.{Command}
 use Rattle.heap_terms.specs.declared.events.Event.{Event}
 use Rattle.heap_terms.specs.declared.events.Event.TheVariants.{Did, Opened, Collected, Ended}
-use Rattle.heap_terms.specs.declared.kinds.Kind.{Kind}
-use Rattle.heap_terms.specs.declared.kinds.Kind.TheVariants as kinds
 use Rattle.heap_terms.specs.declared.programs.Program.{Program}
-use Rattle.heap_terms.specs.Cells.{cell_value}
-use Rattle.heap_terms.specs.Heap.{NamedHeap, Thread, start, thread_at, with_thread, fresh_thread, ended_thread, object_at}
-use Rattle.heap_terms.specs.Histories.{IsNext, after, Lawful, LawfulFrom, replay, replay_from, script_of, thread_of, advance}
-use Rattle.heap_terms.specs.Objects.{Object, Contents, ConsOf, VectorOf, InstanceOf, ClosureOf, WordsOf, WeakTo, TableOf, kind_of}
-use Rattle.heap_terms.specs.Regions.{committed, opened}
-use Rattle.heap_terms.specs.Simple.{effect_of, with_field, with_field_at}
+use Rattle.heap_terms.specs.Heap.{NamedHeap, Thread, start, thread_at, fresh_thread, ended_thread}
+use Rattle.heap_terms.specs.Histories.{IsNext, after, Lawful, replay, script_of, thread_of}
+use Rattle.heap_terms.specs.Order.{is_end}
 use Rattle.heap_terms.specs.Valid.{IsValid}
 use Rattle.heap_terms.specs.WellFormed.{IsWellFormed}
 use Rattle.heap_terms.proofs.Appending.{kept_by_events}
-use Rattle.heap_terms.proofs.Committing.{new_object, initial_kind}
-use Rattle.heap_terms.proofs.Effects.{by_effect, fields_named, with_field-kind}
-use Rattle.heap_terms.proofs.Happenings.{by_events, alive_thread}
-use Rattle.heap_terms.proofs.Moving.{HasMoved, moves, commands_in, is_end, built_heap, builds_page}
-use Rattle.heap_terms.proofs.Places.{push_cases, set_cases, IfSome-at, IfSome-from}
-use Rattle.heap_terms.proofs.Scripts.{only_cons_built}
+use Rattle.heap_terms.proofs.Happenings.{alive_thread}
+use Rattle.heap_terms.proofs.Moving.{HasMoved, moves, commands_in}
 use Rattle.heap_terms.proofs.Standing.{after-well_formed}
 use Rattle.heap_terms.proofs.Sums.{sum_le, sum_change, sum_places}
-use Rattle.heap_terms.proofs.Tasks.{with_cell-objects}
 use Rattle.heap_terms.proofs.Threading.{start-well_formed}
 
 -- the threads at the start
@@ -39,11 +27,11 @@ start_thread_is p t l = get_or-map (λ _. fresh_thread) p.threads t [] (ended_th
 pub start_done : (p : Program) (t : ℕ) → (thread_at (start p) t).done ≡ 0
 unfolding start
 start_done p t = elim (cases_lt t (length p.threads)) [
-      inl l ↦ ap (λ (th : Thread). th.done) (get_or-map (λ _. fresh_thread) p.threads t [] (ended_thread fresh_thread) l)
-    | inr l ↦ (
-        let past : length (map (λ _. fresh_thread) p.threads) ≤ t = omega (arith, length-map p.threads (λ _. fresh_thread)) in
-        ap (λ (th : Thread). th.done) (get_or_past (map (λ _. fresh_thread) p.threads) t (ended_thread fresh_thread) past))
-    ]
+  | inl l ↦ ap (λ (th : Thread). th.done) (get_or-map (λ _. fresh_thread) p.threads t [] (ended_thread fresh_thread) l)
+  | inr l ↦ (
+      let past : length (map (λ _. fresh_thread) p.threads) ≤ t = omega (arith, length-map p.threads (λ _. fresh_thread)) in
+      ap (λ (th : Thread). th.done) (get_or_past (map (λ _. fresh_thread) p.threads) t (ended_thread fresh_thread) past))
+]
 
 -- A well-formed heap whose threads have done no more than their scripts, and whose ended threads no less, and
 -- which has no more objects than commands were done.
@@ -70,25 +58,25 @@ pub moved-counted : (p : Program) (a b : NamedHeap) (t n : ℕ) (ends : Bool) �
 moved-counted p a b t n ends h w l one m = record {
   formed = w;
   within = λ u. elim (cases_eq u t) [
-        inl same ↦ subst (λ (x : ℕ). (thread_at b x).done ≤ length (script_of p x)) (sym same)
-          (let done = m.done in let before = h.within t in elim (cases_lt 0 n) [
-            inl some ↦ (let below = m.within some in omega arith)
+    | inl same ↦ subst (λ (x : ℕ). (thread_at b x).done ≤ length (script_of p x)) (sym same)
+        (let done = m.done in let before = h.within t in elim (cases_lt 0 n) [
+          | inl some ↦ (let below = m.within some in omega arith)
           | inr none ↦ omega arith
-          ])
-      | inr other ↦ rw (m.others u other).done (h.within u)
-      ];
+        ])
+    | inr other ↦ rw (m.others u other).done (h.within u)
+  ];
   over = λ u lu e. elim (cases_eq u t) [
-        inl same ↦ subst (λ (x : ℕ). length (script_of p x) ≤ (thread_at b x).done) (sym same)
-          (let done = m.done in
-          let ended : (thread_at b t).ended ≡ true = subst (λ (x : ℕ). (thread_at b x).ended ≡ true) same e in
-          let over = m.over (sym m.ended ∙ ended) in omega arith)
-      | inr other ↦ rw (m.others u other).done (h.over u lu (sym (m.others u other).ended ∙ e))
-      ];
+    | inl same ↦ subst (λ (x : ℕ). length (script_of p x) ≤ (thread_at b x).done) (sym same)
+        (let done = m.done in
+        let ended : (thread_at b t).ended ≡ true = subst (λ (x : ℕ). (thread_at b x).ended ≡ true) same e in
+        let over = m.over (sym m.ended ∙ ended) in omega arith)
+    | inr other ↦ rw (m.others u other).done (h.over u lu (sym (m.others u other).ended ∙ e))
+  ];
   few = (
       let f : ℕ → ℕ = λ u. (thread_at a u).done in
       let g : ℕ → ℕ = λ u. (thread_at b u).done in
       let change : sum_by g (range_with_len 0 (length p.threads)) + f t ≡ sum_by f (range_with_len 0 (length p.threads)) + g t =
-          sum_change f g t 0 (length p.threads) (omega arith) (omega arith) (λ u other. (m.others u other).done) in
+      sum_change f g t 0 (length p.threads) (omega arith) (omega arith) (λ u other. (m.others u other).done) in
       let done = m.done in
       let objects = m.objects in
       let few = h.few in
@@ -122,7 +110,7 @@ counted_few p a valid h =
     let few = h.few in
     let scripts = sum_places (λ (cs : List Command). length cs) p.threads [] in
     let all : sum_by (λ t. (thread_at a t).done) (range_with_len 0 (length p.threads)) ≤ sum_by (λ t. length (get_or p.threads t [])) (range_with_len 0 (length p.threads)) =
-        sum_le (λ t. (thread_at a t).done) (λ t. length (get_or p.threads t [])) 0 (length p.threads) (λ u low high. h.within u) in
+    sum_le (λ t. (thread_at a t).done) (λ t. length (get_or p.threads t [])) 0 (length p.threads) (λ u low high. h.within u) in
     omega arith
 
 pub commits_few : (p : Program) (h : List Event) → IsValid p → Lawful p h → length (replay p h).objects ≤ 20000

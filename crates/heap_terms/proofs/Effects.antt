@@ -1,6 +1,6 @@
 -- What a command that allocates nothing may change, and that a change of a field keeps an object's kind and size.
-use Rattle.std.proofs.Common.{◌≡◌, ◌≢◌, ℕ, zero, suc, ◌+◌, ◌<◌, ◌≤◌, List, [], ◌∷◌, ◌++◌, length, Option, Some, None, Bool, true, false, ◌⊎◌, inl, inr, refl, sym, ◌∙◌, subst, ap, arith, get_or, set}
-use Rattle.std.proofs.lemmas.Bool.{cases_lt, ltb-true, cases_Bool}
+use Rattle.std.proofs.Common.{◌≡◌, ℕ, zero, suc, ◌<◌, List, length, Option, Some, None, Bool, true, false, refl}
+use Rattle.std.proofs.lemmas.Bool.{ltb-true}
 use Rattle.std.proofs.lemmas.List.{length-set}
 use Rattle.std.specs.Prelude.{if◌then◌else◌, nat_lt, slice_index_or}
 use Rattle.heap_terms.specs.declared.cells.Cell.{Cell}
@@ -8,11 +8,10 @@ use Rattle.heap_terms.specs.declared.cells.Value.{Value}
 use Rattle.heap_terms.specs.declared.cells.Value.TheVariants as values
 use Rattle.heap_terms.specs.declared.commands.Command.{Command}
 use Rattle.heap_terms.specs.declared.commands.Command.TheVariants as commands
-use Rattle.heap_terms.specs.declared.programs.Program.{Program}
 use Rattle.heap_terms.specs.Cells.{cell_value, with_cell}
 use Rattle.heap_terms.specs.Heap.{NamedHeap, object_at, zero_value}
 use Rattle.heap_terms.specs.Objects.{Object, Contents, ConsOf, VectorOf, InstanceOf, ClosureOf, WordsOf, WeakTo, TableOf, kind_of, payload_of, fields_of}
-use Rattle.heap_terms.specs.Simple.{effect_of, changing, fields_at, fields_of_object, with_field, with_field_at, object_with_field}
+use Rattle.heap_terms.specs.Simple.{effect_of, changing, fields_at, fields_of_object, with_field, with_field_at}
 
 -- the two outcomes of a change that is made where there is a field
 pub by_field : {H : Type 0} (P : H → Type 0) (b : Bool) (same new : H) → P same → (b ≡ true → P new) → P (if b then new else same)

@@ -1,5 +1,5 @@
 -- The kinds of event that may come next, with what is known of each.
-use Rattle.std.proofs.Common.{◌≡◌, ◌≢◌, ℕ, ◌+◌, ◌<◌, ◌≤◌, List, [], ◌∷◌, length, Option, Some, None, Bool, true, false, ◌⊎◌, inl, inr, refl, sym, ◌∙◌, subst, ap, arith}
+use Rattle.std.proofs.Common.{◌≡◌, ◌≢◌, ℕ, ◌<◌, length, Option, Some, None, Bool, true, false, inl, inr, refl, sym, ◌∙◌, ap}
 use Rattle.std.proofs.lemmas.Bool.{cases_lt, cases_Bool, false≢true}
 use Rattle.std.proofs.lemmas.List.{get_or_past}
 use Rattle.std.specs.Prelude.{if◌then◌else◌}
@@ -15,7 +15,7 @@ use Rattle.heap_terms.specs.declared.pages.Next.{Next}
 use Rattle.heap_terms.specs.declared.pages.Next.TheVariants as nexts
 use Rattle.heap_terms.specs.declared.programs.Program.{Program}
 use Rattle.heap_terms.specs.Heap.{NamedHeap, Thread, thread_at, with_thread, ended_thread, fresh_thread}
-use Rattle.heap_terms.specs.Histories.{IsNext, IsAnswer, IsOpening, after, after_command, next, next_for, next_command, next_unless_due, due, advance, command_at, wish_at, wished_size}
+use Rattle.heap_terms.specs.Histories.{IsNext, IsAnswer, IsOpening, after, after_command, next, next_for, next_command, next_unless_due, due, advance, command_at, wish_at}
 use Rattle.heap_terms.specs.Layout.{page_type_of, size_of}
 use Rattle.heap_terms.specs.Regions.{Wish, Nothing, Make, wish_of, has_room, pages_needed, IsLowestRun, HasNoRun, opened, committed, place_for}
 use Rattle.heap_terms.specs.Simple.{answer_of, effect_of}
@@ -23,9 +23,9 @@ use Rattle.heap_terms.specs.Simple.{answer_of, effect_of}
 -- a thread that has not ended is one of the heap's
 pub alive_thread : (a : NamedHeap) (t : ℕ) → (thread_at a t).ended ≡ false → t < length a.threads
 alive_thread a t alive = elim (cases_lt t (length a.threads)) [
-      inl h ↦ h
-    | inr h ↦ absurd (false≢true (sym alive ∙ ap (λ (th : Thread). th.ended) (get_or_past a.threads t (ended_thread fresh_thread) h)))
-    ]
+  | inl h ↦ h
+  | inr h ↦ absurd (false≢true (sym alive ∙ ap (λ (th : Thread). th.ended) (get_or_past a.threads t (ended_thread fresh_thread) h)))
+]
 
 -- thread t does the command c, which allocates nothing
 pub record DoesSimple (p : Program) (a : NamedHeap) (t : ℕ) (c : Command) (answer : Answer) : Type 0 where
@@ -116,9 +116,9 @@ never_ends_for a t (Make k m s) e = never_ends (has_room a t k (size_of k m)) k 
 pub never_collects_for : (a : NamedHeap) (t : ℕ) (w : Wish) (last : ℕ) → next_for a t w ≡ nexts.Collect last → ⊥
 never_collects_for a t Nothing last e = cc
 never_collects_for a t (Make k m s) last e = elim (cases_Bool (has_room a t k (size_of k m))) [
-      inl h ↦ (let e' = rw h at e in cc)
-    | inr h ↦ (let e' = rw h at e in cc)
-    ]
+  | inl h ↦ (let e' = rw h at e in cc)
+  | inr h ↦ (let e' = rw h at e in cc)
+]
 
 -- a next thing to do that is neither to collect nor nothing is that of the command at the thread's place
 pub next_is_commands : (ended : Bool) (owed : Option ℕ) (n m : Next) → (if ended then nexts.Done else next_unless_due owed n) ≡ m →

@@ -16,3 +16,11 @@ pub mod Sums
 pub mod Moving
 pub mod Counting
 pub mod Conses
+pub mod Others
+pub mod Falling
+pub mod Going
+pub mod Completing
+pub mod Running
+pub mod Ordering
+pub mod Ranges
+pub mod Determined

@@ -1,19 +1,19 @@
 -- Living values stay living while objects are added or changed, and fields and cells hold living values.
-use Rattle.std.proofs.Common.{◌≡◌, ◌≢◌, ℕ, zero, suc, ◌+◌, ◌<◌, ◌≤◌, List, [], ◌∷◌, ◌++◌, length, Option, Some, None, Bool, true, false, ◌⊎◌, inl, inr, refl, sym, ◌∙◌, subst, ap, arith, get_or, set, replicate, map, lit<}
+use Rattle.std.proofs.Common.{◌≡◌, ℕ, zero, suc, ◌<◌, ◌≤◌, List, [], ◌∷◌, ◌++◌, length, Option, Some, None, inl, inr, refl, subst, arith, set, replicate, map, lit<}
 use Rattle.std.proofs.lemmas.Bool.{cases_lt}
 use Rattle.std.proofs.lemmas.List.{get_or-replicate, get_or_past, length-replicate}
-use Rattle.std.specs.Prelude.{IfSome, IsSome, slice_index_or}
+use Rattle.std.specs.Prelude.{IsSome, slice_index_or}
 use Rattle.heap_terms.specs.declared.cells.Cell.{Cell}
 use Rattle.heap_terms.specs.declared.cells.Cell.TheVariants.{Stack, Exact, Shared}
 use Rattle.heap_terms.specs.declared.cells.Value.{Value}
 use Rattle.heap_terms.specs.declared.cells.Value.TheVariants as values
 use Rattle.heap_terms.specs.declared.programs.Program.{Program}
 use Rattle.heap_terms.specs.Cells.{cell_value}
-use Rattle.heap_terms.specs.Heap.{NamedHeap, object_at, zero_value, thread_at}
+use Rattle.heap_terms.specs.Heap.{NamedHeap, object_at, zero_value}
 use Rattle.heap_terms.specs.Objects.{Object, Contents, ConsOf, VectorOf, InstanceOf, ClosureOf, WordsOf, WeakTo, TableOf, fields_of}
 use Rattle.heap_terms.specs.Simple.{with_field}
 use Rattle.heap_terms.specs.WellFormed.{IsLiving, IsLivingOrUnbound, AreLiving, HoldsLiving, IsWellFormed}
-use Rattle.heap_terms.proofs.Places.{set_cases, push_cases, IsSome-from}
+use Rattle.heap_terms.proofs.Places.{set_cases, push_cases}
 
 -- each object of the first list is there in the second
 abbrev pub AllStay : List (Option Object) → List (Option Object) → Type 0
@@ -57,11 +57,11 @@ zero_living objects = lit< tt
 
 pub AreLiving-zeros : (objects : List (Option Object)) (n : ℕ) → AreLiving objects (replicate n zero_value)
 AreLiving-zeros objects n = λ i. elim (cases_lt i n) [
-      inl h ↦ rw (get_or-replicate n i zero_value zero_value h) (zero_living objects)
-    | inr h ↦ (
-        let past : length (replicate n zero_value) ≤ i = omega (arith, length-replicate n zero_value) in
-        rw (get_or_past (replicate n zero_value) i zero_value past) (zero_living objects))
-    ]
+  | inl h ↦ rw (get_or-replicate n i zero_value zero_value h) (zero_living objects)
+  | inr h ↦ (
+      let past : length (replicate n zero_value) ≤ i = omega (arith, length-replicate n zero_value) in
+      rw (get_or_past (replicate n zero_value) i zero_value past) (zero_living objects))
+]
 
 pub AreLiving-nil : (objects : List (Option Object)) → AreLiving objects []
 AreLiving-nil objects = λ i. zero_living objects
@@ -69,9 +69,9 @@ AreLiving-nil objects = λ i. zero_living objects
 pub AreLiving-set : (objects : List (Option Object)) (vs : List Value) (i : ℕ) (v : Value) → AreLiving objects vs → IsLiving objects v →
     AreLiving objects (set vs i v)
 AreLiving-set objects vs i v h living = λ j. elim (set_cases vs i j v zero_value) [
-      inl e ↦ rw e (h j)
-    | inr e ↦ rw e.2 living
-    ]
+  | inl e ↦ rw e (h j)
+  | inr e ↦ rw e.2 living
+]
 
 -- the fields of an object that holds living values
 pub fields_living : (objects : List (Option Object)) (k : Contents) (vs : List Value) → fields_of k ≡ Some vs → HoldsLiving objects k → AreLiving objects vs
@@ -110,12 +110,12 @@ cell_living p a t (Shared i) w l = w.shared i
 -- a push and a write of an object leave every object there
 pub push_stays : (objects : List (Option Object)) (o : Object) → AllStay objects (objects ++ Some o ∷ [])
 push_stays objects o = λ name h. elim (push_cases objects name (Some o) None) [
-      inl e ↦ rw e.1 h
-    | inr e ↦ rw e.1 refl
-    ]
+  | inl e ↦ rw e.1 h
+  | inr e ↦ rw e.1 refl
+]
 
 pub write_stays : (objects : List (Option Object)) (name : ℕ) (o : Object) → AllStay objects (set objects name (Some o))
 write_stays objects name o = λ x h. elim (set_cases objects name x (Some o) None) [
-      inl e ↦ rw e h
-    | inr e ↦ rw e.2 refl
-    ]
+  | inl e ↦ rw e h
+  | inr e ↦ rw e.2 refl
+]

@@ -1,34 +1,32 @@
 -- What an event does to the threads: its own goes on by a command, or ends, and the others stay as they are.
-use Rattle.std.proofs.Common.{◌≡◌, ◌≢◌, ℕ, zero, suc, ◌+◌, ◌*◌, ◌<◌, ◌≤◌, List, [], ◌∷◌, ◌++◌, length, Option, Some, None, Bool, true, false, ◌⊎◌, inl, inr, refl, sym, ◌∙◌, subst, ap, arith, get_or, set}
-use Rattle.std.proofs.lemmas.Bool.{cases_lt, cases_eq, cases_Bool, false≢true}
+use Rattle.std.proofs.Common.{◌≡◌, ◌≢◌, ℕ, ◌+◌, ◌*◌, ◌<◌, ◌≤◌, List, [], ◌∷◌, ◌++◌, length, Some, None, Bool, true, false, inl, inr, refl, sym, ◌∙◌, subst, ap, arith, get_or, set}
+use Rattle.std.proofs.lemmas.Bool.{cases_lt, false≢true}
 use Rattle.std.proofs.lemmas.List.{length-set, length_push}
 use Rattle.std.proofs.lemmas.Option.{slice_get-get_or}
 use Rattle.std.specs.Prelude.{slice_get}
-use Rattle.heap_terms.specs.declared.cells.Value.{Value}
 use Rattle.heap_terms.specs.declared.cells.Value.TheVariants as values
 use Rattle.heap_terms.specs.declared.commands.Command.{Command}
 use Rattle.heap_terms.specs.declared.events.Event.{Event}
 use Rattle.heap_terms.specs.declared.events.Event.TheVariants.{Did, Opened, Collected, Ended}
 use Rattle.heap_terms.specs.declared.kinds.Kind.{Kind}
 use Rattle.heap_terms.specs.declared.kinds.PageType.{PageType}
-use Rattle.heap_terms.specs.declared.pages.Entry.{Entry}
-use Rattle.heap_terms.specs.declared.pages.Entry.TheVariants.{Free, Used}
+use Rattle.heap_terms.specs.declared.pages.Entry.TheVariants.{Used}
 use Rattle.heap_terms.specs.declared.programs.Program.{Program}
 use Rattle.heap_terms.specs.Cells.{with_cell}
-use Rattle.heap_terms.specs.Heap.{NamedHeap, Thread, thread_at, with_thread, ended_thread, object_at, entry_at}
+use Rattle.heap_terms.specs.Heap.{NamedHeap, Thread, thread_at, ended_thread}
 use Rattle.heap_terms.specs.Histories.{IsNext, after, advance, command_at, script_of, thread_of}
 use Rattle.heap_terms.specs.Layout.{page_words, page_type_of, size_of}
-use Rattle.heap_terms.specs.Objects.{Object}
-use Rattle.heap_terms.specs.Regions.{Make, wish_of, is_small, has_room, committed, opened, destination_of, with_run}
+use Rattle.heap_terms.specs.Order.{is_end}
+use Rattle.heap_terms.specs.Regions.{Make, wish_of, is_small, has_room, committed, opened, destination_of}
 use Rattle.heap_terms.specs.Simple.{effect_of}
 use Rattle.heap_terms.specs.Valid.{IsValid}
 use Rattle.heap_terms.specs.WellFormed.{IsWellFormed}
 use Rattle.heap_terms.proofs.Committing.{HasPage, has_page, heap_with, new_object, committed-small}
-use Rattle.heap_terms.proofs.Happenings.{by_events, alive_thread, DoesSimple, IsRefused, Builds, Opens, Ends}
-use Rattle.heap_terms.proofs.Opening.{OpensRun, opens_run, thread_with_run}
+use Rattle.heap_terms.proofs.Happenings.{by_events, alive_thread}
+use Rattle.heap_terms.proofs.Opening.{opens_run, thread_with_run}
 use Rattle.heap_terms.proofs.Scripts.{script_place}
 use Rattle.heap_terms.proofs.Standing.{wish_small}
-use Rattle.heap_terms.proofs.Tasks.{IsSameTask, same_task, IsSameBoard, with_cell-board, with_cell-objects, effect-board, advanced_thread, advance_others}
+use Rattle.heap_terms.proofs.Tasks.{IsSameTask, same_task, with_cell-board, with_cell-objects, effect-board, advanced_thread, advance_others}
 use Rattle.heap_terms.proofs.Threading.{changed_thread, other_thread}
 
 -- a heap after a commit, but for the thread's place in its script
@@ -42,7 +40,7 @@ pub built_heap : (p : Program) (a : NamedHeap) (t : ℕ) (c : Command) (kind : K
     (h : HasPage a t (page_type_of kind) (size_of kind n)) → IsBuilt a (committed p a t c kind n) t c kind n h.page h.fill
 built_heap p a t c kind n auto small h =
     let b = heap_with a (a.objects ++ Some (new_object a t c (page_words * h.page + h.fill)) ∷ []) a.threads
-        (set a.pages h.page (Used (page_type_of kind) 0 (h.fill + size_of kind n) h.page 1)) in
+    (set a.pages h.page (Used (page_type_of kind) 0 (h.fill + size_of kind n) h.page 1)) in
     let board = with_cell-board b t (destination_of c) (values.Ref (length a.objects)) in
     let built : IsBuilt a (with_cell b t (destination_of c) (values.Ref (length a.objects))) t c kind n h.page h.fill = record {
       tasks = board.tasks;
@@ -60,18 +58,12 @@ builds_page p a t c kind n seed valid w command wish room =
     let small = wish_small p t (thread_at a t).done c kind n seed valid command wish in
     (small, has_page p a t kind (size_of kind n) w small room)
 
--- how many commands an event is, and whether it is an end
+-- how many commands an event is
 abbrev pub commands_in : Event → ℕ
 commands_in (Did t c answer) = 1
 commands_in (Opened t ty first k) = 0
 commands_in (Collected t last passes) = 0
 commands_in (Ended t) = 0
-
-abbrev pub is_end : Event → Bool
-is_end (Did t c answer) = false
-is_end (Opened t ty first k) = false
-is_end (Collected t last passes) = false
-is_end (Ended t) = true
 
 -- thread t did that many commands, or ended, and the others stay
 pub record HasMoved (p : Program) (a b : NamedHeap) (t commands : ℕ) (ends : Bool) : Type 0 where
@@ -103,9 +95,9 @@ advance-moved p a x t c alive command tasks threads objects =
 
 pub no_command : (p : Program) (a : NamedHeap) (t : ℕ) → command_at p a t ≡ None → length (script_of p t) ≤ (thread_at a t).done
 no_command p a t e = elim (cases_lt (thread_at a t).done (length (script_of p t))) [
-      inr h ↦ h
-    | inl h ↦ go (script_of p t) (thread_at a t).done h e
-    ]
+  | inr h ↦ h
+  | inl h ↦ go (script_of p t) (thread_at a t).done h e
+]
   where
     go : (cs : List Command) (i : ℕ) → i < length cs → slice_get cs i ≡ None → length cs ≤ i
     go [] i l e = absurd (omega arith)
@@ -134,14 +126,14 @@ pub moves : (p : Program) (a : NamedHeap) (e : Event) → IsValid p → IsWellFo
     HasMoved p a (after p a e) (thread_of e) (commands_in e) (is_end e)
 moves p a e valid w next = by_events p a (λ e b. HasMoved p a b (thread_of e) (commands_in e) (is_end e))
     (λ t c answer d. let board = effect-board a t c in
-      advance-moved p a (effect_of a t c) t c d.alive d.command board.tasks board.threads (let same = board.objects in omega arith))
+    advance-moved p a (effect_of a t c) t c d.alive d.command board.tasks board.threads (let same = board.objects in omega arith))
     (λ t c answer d. advance-moved p a a t c d.alive d.command (λ u. same_task (thread_at a u)) refl (omega arith))
     (λ t c answer kind n seed d.
-      let page = builds_page p a t c kind n seed valid w d.command d.wish d.room in
-      let built = built_heap p a t c kind n valid.auto page.0 page.1 in
-      advance-moved p a (committed p a t c kind n) t c d.alive d.command built.tasks built.threads
-      (let o = new_object a t c (page_words * page.1.page + page.1.fill) in
-      omega (arith, ap length built.objects, length_push a.objects (Some o))))
+    let page = builds_page p a t c kind n seed valid w d.command d.wish d.room in
+    let built = built_heap p a t c kind n valid.auto page.0 page.1 in
+    advance-moved p a (committed p a t c kind n) t c d.alive d.command built.tasks built.threads
+    (let o = new_object a t c (page_words * page.1.page + page.1.fill) in
+    omega (arith, ap length built.objects, length_push a.objects (Some o))))
     (λ t ty first k d. opened-moved p a t ty first k d.alive)
     (λ t d. record {
       alive = d.alive;

@@ -1,20 +1,19 @@
 -- A well-formed heap stays well-formed when a thread opens a region.
-use Rattle.std.proofs.Common.{◌≡◌, ◌≢◌, ℕ, zero, suc, ◌+◌, ◌-◌, ◌*◌, ◌<◌, ◌≤◌, List, [], ◌∷◌, ◌++◌, length, Option, Some, None, Bool, true, false, ◌⊎◌, inl, inr, refl, sym, ◌∙◌, subst, ap, arith, get_or, set, take, drop, replicate, min, eqb}
-use Rattle.std.proofs.lemmas.Bool.{cases_lt, cases_eq, cases_Bool, eq-eqb, ne_eqb}
-use Rattle.std.proofs.lemmas.List.{length-append, length-take, length-take-le, length-drop, length-replicate, get_or-take, get_or-drop, get_or-replicate, get_or_append_left, get_or-append_right, get_or_past}
-use Rattle.std.specs.Prelude.{IfSome, IsSome, if◌then◌else◌, ◌==◌}
+use Rattle.std.proofs.Common.{◌≡◌, ◌≢◌, ℕ, ◌+◌, ◌-◌, ◌<◌, ◌≤◌, List, ◌++◌, length, Option, Some, true, ◌⊎◌, inl, inr, refl, sym, ◌∙◌, subst, ap, arith, get_or, take, drop, replicate}
+use Rattle.std.proofs.lemmas.Bool.{cases_lt, cases_eq, eq-eqb, ne_eqb}
+use Rattle.std.proofs.lemmas.List.{length-append, length-take-le, length-drop, length-replicate, get_or-take, get_or-drop, get_or-replicate, get_or_append_left, get_or-append_right}
+use Rattle.std.specs.Prelude.{if◌then◌else◌, ◌==◌}
 use Rattle.heap_terms.specs.declared.kinds.PageType.{PageType}
 use Rattle.heap_terms.specs.declared.kinds.PageType.TheVariants as types
 use Rattle.heap_terms.specs.declared.pages.Entry.{Entry}
 use Rattle.heap_terms.specs.declared.pages.Entry.TheVariants.{Free, Used}
 use Rattle.heap_terms.specs.declared.programs.Program.{Program}
-use Rattle.heap_terms.specs.Heap.{NamedHeap, Thread, object_at, entry_at, thread_at, with_thread, open_page, with_open_page, fill_of}
-use Rattle.heap_terms.specs.Layout.{page_words}
-use Rattle.heap_terms.specs.Objects.{Object, words_of_object}
-use Rattle.heap_terms.specs.Regions.{IsRun, IsLowestRun, is_free, with_run, opened}
-use Rattle.heap_terms.specs.WellFormed.{IsWellFormed, IsThread, IsPlaced, IsFill, IsOwned, IsOpenPage, IsOpenRun, IsOpenRunPage}
+use Rattle.heap_terms.specs.Heap.{NamedHeap, Thread, object_at, entry_at, thread_at, with_thread, open_page, with_open_page}
+use Rattle.heap_terms.specs.Objects.{Object}
+use Rattle.heap_terms.specs.Regions.{IsRun, is_free, with_run, opened}
+use Rattle.heap_terms.specs.WellFormed.{IsWellFormed, IsThread, IsPlaced, IsOpenPage, IsOpenRun, IsOpenRunPage}
 use Rattle.heap_terms.proofs.Places.{IfSome-at, IfSome-from}
-use Rattle.heap_terms.proofs.Staying.{EntryStays, EntryStays-same, PagesStay, IsPlaced-stays, IsOpenPage-stays, IsOpenRun-stays}
+use Rattle.heap_terms.proofs.Staying.{EntryStays-same, PagesStay, IsPlaced-stays, IsOpenPage-stays, IsOpenRun-stays}
 use Rattle.heap_terms.proofs.Threading.{AreOwn, with_thread-own, thread_cases, open_page_used, open_run_used}
 
 -- the entries while a run is open: those of the run, and the others
@@ -62,20 +61,20 @@ pub run_cases : (pages : List Entry) (first k : ℕ) (ty : PageType) (i : ℕ) �
     (entry_at (with_run pages first k ty) i ≡ entry_at pages i)
     ⊎ ((first ≤ i) × (i < first + k) × (entry_at (with_run pages first k ty) i ≡ Used ty 0 0 first k) × (entry_at pages i ≡ Free))
 run_cases pages first k ty i run = elim (cases_lt i first) [
-      inl low ↦ inl (other_entry pages first k ty i run.inside (inl low))
-    | inr low ↦ elim (cases_lt i (first + k)) [
-          inr high ↦ inl (other_entry pages first k ty i run.inside (inr high))
-        | inl high ↦ inr (low, high, run_entry pages first k ty i run.inside low high, free_is (entry_at pages i) (run.free i low high))
-        ]
-    ]
+  | inl low ↦ inl (other_entry pages first k ty i run.inside (inl low))
+  | inr low ↦ elim (cases_lt i (first + k)) [
+    | inr high ↦ inl (other_entry pages first k ty i run.inside (inr high))
+    | inl high ↦ inr (low, high, run_entry pages first k ty i run.inside low high, free_is (entry_at pages i) (run.free i low high))
+  ]
+]
 
 pub run_stays : (pages : List Entry) (first k : ℕ) (ty : PageType) → IsRun pages first k → PagesStay pages (with_run pages first k ty)
 run_stays pages first k ty run = record {
   lengths = run_length pages first k ty run.inside;
   each = λ i. elim (run_cases pages first k ty i run) [
-        inl same ↦ rw same (EntryStays-same (entry_at pages i))
-      | inr new ↦ rw new.3 tt
-      ];
+    | inl same ↦ rw same (EntryStays-same (entry_at pages i))
+    | inr new ↦ rw new.3 tt
+  ];
 }
 
 -- threads stay well-formed while pages stay
@@ -108,13 +107,13 @@ run-kept p a ty first k w run =
           IsPlaced-stays a.pages new o stay (IfSome-at (IsPlaced a.pages) (object_at a.objects x) o e (w.placed x)));
       apart = w.apart;
       fills = λ i. elim (run_cases a.pages first k ty i run) [
-            inl same ↦ rw same (w.fills i)
-          | inr taken ↦ rw taken.2 (record { even = refl; most = omega arith })
-          ];
+        | inl same ↦ rw same (w.fills i)
+        | inr taken ↦ rw taken.2 (record { even = refl; most = omega arith })
+      ];
       owned = λ page i l. elim (run_cases a.pages first k ty page run) [
-            inl same ↦ w.owned page i (rw same at l)
-          | inr taken ↦ (let none : i < 0 = rw taken.2 at l in absurd (omega arith))
-          ];
+        | inl same ↦ w.owned page i (rw same at l)
+        | inr taken ↦ (let none : i < 0 = rw taken.2 at l in absurd (omega arith))
+      ];
       own_pages = w.own_pages;
       own_runs = w.own_runs;
       owes_nothing = w.owes_nothing;
@@ -181,17 +180,17 @@ pub record OpensRun (th : Thread) (ty : PageType) (first k : ℕ) (new : Thread)
 
 pub opens_run : (th : Thread) (ty : PageType) (first k : ℕ) → OpensRun th ty first k (thread_with_run th ty first k)
 opens_run th ty first k = elim (cases_eq k 1) [
-      inl one ↦ rw (eq-eqb k 1 one) (record {
-        cells = with_open_page-cells th ty first;
-        pages = λ other page e. elim (opened_page_cases th ty first other page e) [ inl old ↦ inl old | inr new ↦ inr (new.0, new.1, one) ];
-        run = λ page e. inl (sym (with_open_page-run th ty first) ∙ e);
-      })
-    | inr more ↦ rw (ne_eqb k 1 more) (record {
-        cells = record { done = refl; stack = refl; exact = refl; raws = refl; owed = refl; pins = refl; inhibits = refl; ended = refl };
-        pages = λ other page e. inl (same_pages th first other page e);
-        run = λ page e. inr (cc, more);
-      })
-    ]
+  | inl one ↦ rw (eq-eqb k 1 one) (record {
+    cells = with_open_page-cells th ty first;
+    pages = λ other page e. elim (opened_page_cases th ty first other page e) [ inl old ↦ inl old | inr new ↦ inr (new.0, new.1, one) ];
+    run = λ page e. inl (sym (with_open_page-run th ty first) ∙ e);
+  })
+  | inr more ↦ rw (ne_eqb k 1 more) (record {
+    cells = record { done = refl; stack = refl; exact = refl; raws = refl; owed = refl; pins = refl; inhibits = refl; ended = refl };
+    pages = λ other page e. inl (same_pages th first other page e);
+    run = λ page e. inr (cc, more);
+  })
+]
   where
     same_pages : (th : Thread) (first : ℕ) (other : PageType) (page : ℕ) → open_page (record th { open_run = Some first }) other ≡ Some page → open_page th other ≡ Some page
     same_pages th first types.Cons page e = e
@@ -204,45 +203,46 @@ pub own_opened : (p : Program) (b : NamedHeap) (t : ℕ) (new : Thread) (ty : Pa
     ((u : ℕ) → (thread_at b u).open_run ≡ Some first → ⊥) → AreOwn (with_thread b t new)
 own_opened p b t new ty first k w opens nobody nobody_run = record {
   pages = λ u v one other page e f. elim (back u one page e) [
-        inl h ↦ elim (back v other page f) [
-            inl g ↦ w.own_pages u v one other page h g
-          | inr g ↦ absurd (nobody u one (h ∙ ap {B = Option ℕ} (λ (x : ℕ). Some x) g.2))
-          ]
-      | inr h ↦ elim (back v other page f) [
-            inl g ↦ absurd (nobody v other (g ∙ ap {B = Option ℕ} (λ (x : ℕ). Some x) h.2))
-          | inr g ↦ (h.0 ∙ sym g.0, h.1 ∙ sym g.1)
-          ]
-      ];
+    | inl h ↦ elim (back v other page f) [
+      | inl g ↦ w.own_pages u v one other page h g
+      | inr g ↦ absurd (nobody u one (h ∙ ap {B = Option ℕ} (λ (x : ℕ). Some x) g.2))
+    ]
+    | inr h ↦ elim (back v other page f) [
+      | inl g ↦ absurd (nobody v other (g ∙ ap {B = Option ℕ} (λ (x : ℕ). Some x) h.2))
+      | inr g ↦ (h.0 ∙ sym g.0, h.1 ∙ sym g.1)
+    ]
+  ];
   runs = λ u v page e f. elim (back_run u page e) [
-        inl h ↦ elim (back_run v page f) [
-            inl g ↦ w.own_runs u v page h g
-          | inr g ↦ absurd (nobody_run u (h ∙ ap {B = Option ℕ} (λ (x : ℕ). Some x) g.1))
-          ]
-      | inr h ↦ elim (back_run v page f) [
-            inl g ↦ absurd (nobody_run v (g ∙ ap {B = Option ℕ} (λ (x : ℕ). Some x) h.1))
-          | inr g ↦ h.0 ∙ sym g.0
-          ]
-      ];
+    | inl h ↦ elim (back_run v page f) [
+      | inl g ↦ w.own_runs u v page h g
+      | inr g ↦ absurd (nobody_run u (h ∙ ap {B = Option ℕ} (λ (x : ℕ). Some x) g.1))
+    ]
+    | inr h ↦ elim (back_run v page f) [
+      | inl g ↦ absurd (nobody_run v (g ∙ ap {B = Option ℕ} (λ (x : ℕ). Some x) h.1))
+      | inr g ↦ h.0 ∙ sym g.0
+    ]
+  ];
 }
   where
     back : (u : ℕ) (other : PageType) (page : ℕ) → open_page (thread_at (with_thread b t new) u) other ≡ Some page →
         (open_page (thread_at b u) other ≡ Some page) ⊎ ((u ≡ t) × (other ≡ ty) × (page ≡ first))
     back u other page e = elim (thread_cases b t u new) [
-          inl same ↦ inl (rw same at e)
-        | inr same ↦ elim (opens.pages other page (rw same.2 at e)) [
-              inl old ↦ inl (rw same.0 old)
-            | inr fresh ↦ inr (same.0, fresh.0, fresh.1)
-            ]
-        ]
+      | inl same ↦ inl (rw same at e)
+      | inr same ↦ elim (opens.pages other page (rw same.2 at e)) [
+        | inl old ↦ inl (rw same.0 old)
+        | inr fresh ↦ inr (same.0, fresh.0, fresh.1)
+      ]
+    ]
+
     back_run : (u : ℕ) (page : ℕ) → (thread_at (with_thread b t new) u).open_run ≡ Some page →
         ((thread_at b u).open_run ≡ Some page) ⊎ ((u ≡ t) × (page ≡ first))
     back_run u page e = elim (thread_cases b t u new) [
-          inl same ↦ inl (rw same at e)
-        | inr same ↦ elim (opens.run page (rw same.2 at e)) [
-              inl old ↦ inl (rw same.0 old)
-            | inr fresh ↦ inr (same.0, fresh.0)
-            ]
-        ]
+      | inl same ↦ inl (rw same at e)
+      | inr same ↦ elim (opens.run page (rw same.2 at e)) [
+        | inl old ↦ inl (rw same.0 old)
+        | inr fresh ↦ inr (same.0, fresh.0)
+      ]
+    ]
 
 -- what was opened is open
 pub new_page_open : (pages : List Entry) (first k : ℕ) (ty other : PageType) (page : ℕ) → first + k ≤ length pages → other ≡ ty → page ≡ first → k ≡ 1 →
@@ -284,13 +284,13 @@ opened-kept p a t ty first k w run some =
     let nobody_run : (u : ℕ) → (thread_at b u).open_run ≡ Some first → ⊥ = λ u e. open_run_taken a.pages first (open_run_used p a u first w e) free in
     with_thread-own p b t new wb
     (λ l. with_cells_of a.objects pages th new (wb.threads t l) opens.cells.stack opens.cells.exact opens.cells.raws
-      (λ other page e. elim (opens.pages other page e) [
-          inl old ↦ open_page_used p b t other page wb old
-        | inr fresh ↦ new_page_open a.pages first k ty other page run.inside fresh.0 fresh.1 fresh.2
-        ])
-      (λ page e. elim (opens.run page e) [
-          inl old ↦ open_run_used p b t page wb old
-        | inr fresh ↦ new_run_open a.pages first k ty page run.inside fresh.0 some fresh.1
-        ]))
+    (λ other page e. elim (opens.pages other page e) [
+      | inl old ↦ open_page_used p b t other page wb old
+      | inr fresh ↦ new_page_open a.pages first k ty other page run.inside fresh.0 fresh.1 fresh.2
+    ])
+    (λ page e. elim (opens.run page e) [
+      | inl old ↦ open_run_used p b t page wb old
+      | inr fresh ↦ new_run_open a.pages first k ty page run.inside fresh.0 some fresh.1
+    ]))
     (opens.cells.owed ∙ w.owes_nothing t) (opens.cells.pins ∙ w.pins_nothing t)
     (own_opened p b t new ty first k wb opens nobody nobody_run)

@@ -1,24 +1,24 @@
 -- What is known of the commands of a valid program.
-use Rattle.std.proofs.Common.{◌≡◌, ◌≢◌, ℕ, ◌+◌, ◌<◌, ◌≤◌, List, [], ◌∷◌, length, Option, Some, None, Bool, true, false, ◌⊎◌, inl, inr, refl, sym, ◌∙◌, subst, ap, arith}
+use Rattle.std.proofs.Common.{◌≡◌, ℕ, ◌<◌, [], length, Some, true, ◌⊎◌, inl, inr, refl, subst}
 use Rattle.std.proofs.lemmas.Bool.{cases_lt, false≢true}
 use Rattle.std.proofs.lemmas.List.{get_or_past}
-use Rattle.std.proofs.lemmas.Option.{slice_get_within, get_or_from_slice_get, slice_get_past, none-some}
-use Rattle.std.specs.Prelude.{slice_get, slice_index_or, All}
+use Rattle.std.proofs.lemmas.Option.{slice_get_within, get_or_from_slice_get, none-some}
+use Rattle.std.specs.Prelude.{slice_get}
 use Rattle.heap_terms.specs.declared.commands.Command.{Command}
-use Rattle.heap_terms.specs.declared.commands.Command.TheVariants.{Fix, MakeNil, Move, NewCons, NewVector, NewInstance, NewClosure, NewWords, NewWeak, NewTable, Get, Put, RawGet, RawPut, Same, Show, Addr, SetRaw, AddRaw, Pin, Unpin, WeakVal, TablePut, TableGet, TableRem, TableCount, Finalize, Cancel, RunFinalizers, Collect, Inhibit, Allow, ShowPage, Stat}
+use Rattle.heap_terms.specs.declared.commands.Command.TheVariants.{Fix, NewCons, Get, Put, Show}
 use Rattle.heap_terms.specs.declared.kinds.Kind.{Kind}
 use Rattle.heap_terms.specs.declared.kinds.Kind.TheVariants as kinds
 use Rattle.heap_terms.specs.declared.programs.Program.{Program}
 use Rattle.heap_terms.specs.Histories.{script_of}
-use Rattle.heap_terms.specs.Regions.{Wish, Nothing, Make, wish_of}
+use Rattle.heap_terms.specs.Regions.{Nothing, Make, wish_of}
 use Rattle.heap_terms.specs.Valid.{IsValid, IsCommand, name_of, is_built}
 
 -- a place in a script that has a command belongs to a thread
 pub script_thread : (p : Program) (t i : ℕ) (c : Command) → slice_get (script_of p t) i ≡ Some c → t < length p.threads
 script_thread p t i c e = elim (cases_lt t (length p.threads)) [
-      inl h ↦ h
-    | inr h ↦ absurd (none-some c (rw (get_or_past p.threads t [] h) at e))
-    ]
+  | inl h ↦ h
+  | inr h ↦ absurd (none-some c (rw (get_or_past p.threads t [] h) at e))
+]
 
 -- and lies below the script's end
 pub script_place : (p : Program) (t i : ℕ) (c : Command) → slice_get (script_of p t) i ≡ Some c → i < length (script_of p t)
@@ -70,6 +70,6 @@ script_wish p t i c valid e = built_wish c (script_built p t i c valid e)
 pub only_cons_built : (p : Program) (t i : ℕ) (c : Command) (kind : Kind) (n seed : ℕ) → IsValid p →
     slice_get (script_of p t) i ≡ Some c → wish_of c ≡ Make kind n seed → (kind ≡ kinds.Cons) × (n ≡ 2) × (seed ≡ 0)
 only_cons_built p t i c kind n seed valid e w = elim (script_wish p t i c valid e) [
-      inl h ↦ cc
-    | inr h ↦ (cc, cc, cc)
-    ]
+  | inl h ↦ cc
+  | inr h ↦ (cc, cc, cc)
+]

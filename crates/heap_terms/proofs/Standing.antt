@@ -1,29 +1,23 @@
 -- Every lawful history of a valid program leaves a well-formed heap.
-use Rattle.std.proofs.Common.{◌≡◌, ◌≢◌, ℕ, ◌+◌, ◌<◌, ◌≤◌, List, [], ◌∷◌, ◌++◌, length, Option, Some, None, Bool, true, false, ◌⊎◌, inl, inr, refl, sym, ◌∙◌, subst, ap, arith}
-use Rattle.std.specs.Prelude.{IfSome, IsSome, slice_get}
-use Rattle.heap_terms.specs.declared.answers.Answer.{Answer}
-use Rattle.heap_terms.specs.declared.cells.Value.{Value}
+use Rattle.std.proofs.Common.{◌≡◌, ℕ, ◌<◌, List, length, Some, true, refl, subst}
+use Rattle.std.specs.Prelude.{slice_get}
 use Rattle.heap_terms.specs.declared.cells.Value.TheVariants as values
 use Rattle.heap_terms.specs.declared.commands.Command.{Command}
-use Rattle.heap_terms.specs.declared.commands.Command.TheVariants as commands
 use Rattle.heap_terms.specs.declared.events.Event.{Event}
 use Rattle.heap_terms.specs.declared.kinds.Kind.{Kind}
-use Rattle.heap_terms.specs.declared.kinds.Kind.TheVariants as kinds
-use Rattle.heap_terms.specs.declared.kinds.PageType.{PageType}
 use Rattle.heap_terms.specs.declared.programs.Program.{Program}
-use Rattle.heap_terms.specs.Cells.{cell_value, with_cell}
-use Rattle.heap_terms.specs.Heap.{NamedHeap, start, thread_at, with_thread, ended_thread, object_at}
-use Rattle.heap_terms.specs.Histories.{IsNext, after, advance, command_at, Lawful, LawfulFrom, replay, replay_from, script_of}
+use Rattle.heap_terms.specs.Cells.{cell_value}
+use Rattle.heap_terms.specs.Heap.{NamedHeap, start, thread_at, object_at}
+use Rattle.heap_terms.specs.Histories.{IsNext, after, Lawful, LawfulFrom, replay, replay_from, script_of}
 use Rattle.heap_terms.specs.Layout.{size_of}
-use Rattle.heap_terms.specs.Objects.{Object}
-use Rattle.heap_terms.specs.Regions.{Make, wish_of, is_small, pages_needed, committed, opened}
+use Rattle.heap_terms.specs.Regions.{Make, wish_of, is_small, committed}
 use Rattle.heap_terms.specs.Simple.{effect_of}
-use Rattle.heap_terms.specs.Valid.{IsValid, IsCommand, IsFixnum}
+use Rattle.heap_terms.specs.Valid.{IsValid, IsCommand}
 use Rattle.heap_terms.specs.WellFormed.{IsWellFormed, HoldsLiving}
 use Rattle.heap_terms.proofs.Appending.{kept_by_events}
 use Rattle.heap_terms.proofs.Committing.{committed-kept}
 use Rattle.heap_terms.proofs.Effects.{by_effect, fields_named}
-use Rattle.heap_terms.proofs.Happenings.{by_events, DoesSimple, IsRefused, Builds, Opens, Ends}
+use Rattle.heap_terms.proofs.Happenings.{by_events}
 use Rattle.heap_terms.proofs.Living.{cell_living, fields_living}
 use Rattle.heap_terms.proofs.Opening.{opened-kept}
 use Rattle.heap_terms.proofs.Places.{IfSome-at}
@@ -37,12 +31,12 @@ pub effect-kept : (p : Program) (a : NamedHeap) (t : ℕ) (c : Command) → IsWe
 effect-kept p a t c w l command = by_effect a t c (λ b. IsWellFormed p b) w
     (λ d n e. with_cell-kept p a t d (values.Fix n) w (subst (λ (x : Command). IsCommand x) e command).in_range.1)
     (λ d x i vs e f below.
-      let parts = fields_named a.objects (cell_value a t x) vs f in
-      let holds = IfSome-at (λ o. HoldsLiving a.objects o.contents) (object_at a.objects parts.0) parts.1 parts.3 (w.contents parts.0) in
-      with_cell-kept p a t d _ w (fields_living a.objects parts.1.contents vs parts.4 holds i))
+    let parts = fields_named a.objects (cell_value a t x) vs f in
+    let holds = IfSome-at (λ o. HoldsLiving a.objects o.contents) (object_at a.objects parts.0) parts.1 parts.3 (w.contents parts.0) in
+    with_cell-kept p a t d _ w (fields_living a.objects parts.1.contents vs parts.4 holds i))
     (λ x i b vs e f below.
-      let parts = fields_named a.objects (cell_value a t x) vs f in
-      put-kept p a (cell_value a t x) (cell_value a t b) i w parts.0 parts.1 parts.2 parts.3 (cell_living p a t b w l))
+    let parts = fields_named a.objects (cell_value a t x) vs f in
+    put-kept p a (cell_value a t x) (cell_value a t b) i w parts.0 parts.1 parts.2 parts.3 (cell_living p a t b w l))
 
 -- a valid program wishes for conses alone, which are small
 pub wish_small : (p : Program) (t i : ℕ) (c : Command) (kind : Kind) (n seed : ℕ) → IsValid p → slice_get (script_of p t) i ≡ Some c →
@@ -54,11 +48,11 @@ wish_small p t i c kind n seed valid at wish =
 pub after-well_formed : (p : Program) → IsValid p → (a : NamedHeap) (e : Event) → IsNext p a e → IsWellFormed p a → IsWellFormed p (after p a e)
 after-well_formed p valid a e next w = by_events p a (λ e b. IsWellFormed p b)
     (λ t c answer d. advance-kept p (effect_of a t c) t
-      (effect-kept p a t c w (script_thread p t (thread_at a t).done c d.command) (script_command p t (thread_at a t).done c valid d.command)))
+    (effect-kept p a t c w (script_thread p t (thread_at a t).done c d.command) (script_command p t (thread_at a t).done c valid d.command)))
     (λ t c answer d. advance-kept p a t w)
     (λ t c answer kind n seed d. advance-kept p (committed p a t c kind n) t
-      (committed-kept p a t c kind n seed w valid.auto (script_thread p t (thread_at a t).done c d.command) d.wish
-      (wish_small p t (thread_at a t).done c kind n seed valid d.command d.wish) d.room))
+    (committed-kept p a t c kind n seed w valid.auto (script_thread p t (thread_at a t).done c d.command) d.wish
+    (wish_small p t (thread_at a t).done c kind n seed valid d.command d.wish) d.room))
     (λ t ty first k d. opened-kept p a t ty first k w d.lowest.run (rw d.count_is (needs_least (size_of d.kind d.n))))
     (λ t d. ended-kept p a t w)
     e next

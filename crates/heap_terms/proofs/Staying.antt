@@ -1,17 +1,16 @@
 -- What lies on pages stays where it may lie while pages are opened and filled, and while fields change.
-use Rattle.std.proofs.Common.{◌≡◌, ◌≢◌, ℕ, zero, suc, ◌+◌, ◌-◌, ◌*◌, ◌/◌, ◌%◌, ◌<◌, ◌≤◌, List, [], ◌∷◌, ◌++◌, length, Option, Some, None, Bool, true, false, ◌⊎◌, inl, inr, refl, sym, ◌∙◌, subst, ap, arith, get_or, set}
-use Rattle.std.proofs.lemmas.Bool.{cases_lt, cases_Bool, cases_eq, cases_order, leb-true, leb-false, le-leb, lt-leb, false≢true}
-use Rattle.std.specs.Prelude.{IfSome, IsSome, if◌then◌else◌, nat_le}
+use Rattle.std.proofs.Common.{◌≡◌, ◌≢◌, ℕ, ◌+◌, ◌*◌, ◌/◌, ◌%◌, ◌<◌, ◌≤◌, List, length, true, false, inl, inr, refl, sym, ◌∙◌, subst, arith}
+use Rattle.std.proofs.lemmas.Bool.{cases_Bool, leb-true, leb-false}
 use Rattle.heap_terms.specs.declared.kinds.Kind.{Kind}
 use Rattle.heap_terms.specs.declared.kinds.Kind.TheVariants as kinds
 use Rattle.heap_terms.specs.declared.kinds.PageType.{PageType}
 use Rattle.heap_terms.specs.declared.pages.Entry.{Entry}
 use Rattle.heap_terms.specs.declared.pages.Entry.TheVariants.{Free, Used}
-use Rattle.heap_terms.specs.Heap.{NamedHeap, Thread, object_at, entry_at, fill_of, open_page}
-use Rattle.heap_terms.specs.Layout.{page_words, page_type_of, size_of, size_with_header}
-use Rattle.heap_terms.specs.Objects.{Object, Contents, ConsOf, VectorOf, InstanceOf, ClosureOf, WordsOf, WeakTo, TableOf, kind_of, payload_of, words_of_object}
+use Rattle.heap_terms.specs.Heap.{entry_at}
+use Rattle.heap_terms.specs.Layout.{page_words, size_of}
+use Rattle.heap_terms.specs.Objects.{Object, kind_of, payload_of, words_of_object}
 use Rattle.heap_terms.specs.Regions.{is_small, pages_needed}
-use Rattle.heap_terms.specs.WellFormed.{IsOnPage, IsPageOfRun, IsPlaced, AreApart, IsFill, IsOpenPage, IsOpenRunPage, IsOpenRun, IsThread}
+use Rattle.heap_terms.specs.WellFormed.{IsOnPage, IsPageOfRun, IsPlaced, AreApart, IsOpenPage, IsOpenRunPage, IsOpenRun}
 
 -- a size is an even number from 2 on
 pub size_even : (kind : Kind) (n : ℕ) → size_of kind n % 2 ≡ 0
@@ -53,9 +52,9 @@ needs_enough size e = rw (large_needs size e) (omega arith)
 
 pub needs_least : (size : ℕ) → 1 ≤ pages_needed size
 needs_least size = elim (cases_Bool (is_small size)) [
-      inl e ↦ omega (arith, small_needs size e)
-    | inr e ↦ omega (arith, needs_two size e)
-    ]
+  | inl e ↦ omega (arith, small_needs size e)
+  | inr e ↦ omega (arith, needs_two size e)
+]
 
 -- An entry stays while its page is filled further: a used page stays one of its type, its generation and its
 -- run, its fill does not fall, and it does not change on a page of a run of two or more.
@@ -80,10 +79,14 @@ pub IsPageOfRun-stays : (o : Object) (i : ℕ) (old new : Entry) → EntryStays 
 IsPageOfRun-stays o i Free new s long h = absurd h
 IsPageOfRun-stays o i (Used ty g fill first n) Free s long h = absurd s
 IsPageOfRun-stays o i (Used ty g fill first n) (Used ty' g' fill' first' n') s long h =
-    let same : fill' ≡ fill = s.5 (λ one. long (sym h.3 ∙ one)) in
-    (s.0 ∙ h.0, s.1 ∙ h.1, s.2 ∙ h.2, s.3 ∙ h.3,
-    (λ l. same ∙ h.4 (rw (← s.3) l)),
-    (λ l. rw same (h.5 (l ∙ s.3))))
+    let same : fill' ≡ fill = s.5 (λ one. long (sym h.3 ∙ one)) in (
+      s.0 ∙ h.0,
+      s.1 ∙ h.1,
+      s.2 ∙ h.2,
+      s.3 ∙ h.3,
+      (λ l. same ∙ h.4 (rw (← s.3) l)),
+      (λ l. rw same (h.5 (l ∙ s.3))),
+    )
 
 pub IsOpenPage-stays : (ty : PageType) (page : ℕ) (old new : Entry) → EntryStays old new → IsOpenPage ty page old → IsOpenPage ty page new
 IsOpenPage-stays ty page Free new s h = absurd h

@@ -1,27 +1,22 @@
 -- What an event changes of a thread beside its cells: how far it is, its regions, and whether it has ended.
-use Rattle.std.proofs.Common.{◌≡◌, ◌≢◌, ℕ, zero, suc, ◌+◌, ◌*◌, ◌<◌, ◌≤◌, List, [], ◌∷◌, ◌++◌, length, Option, Some, None, Bool, true, false, ◌⊎◌, inl, inr, refl, sym, ◌∙◌, subst, ap, arith, get_or, set}
-use Rattle.std.proofs.lemmas.List.{length-set, length_push}
+use Rattle.std.proofs.Common.{◌≡◌, ◌≢◌, ℕ, ◌+◌, ◌<◌, List, length, Option, Some, None, Bool, true, false, inl, inr, refl, sym, ◌∙◌, set}
+use Rattle.std.proofs.lemmas.List.{length-set}
 use Rattle.std.proofs.lemmas.Bool.{cases_Bool}
-use Rattle.std.specs.Prelude.{IfSome, IsSome, if◌then◌else◌, ◌==◌}
+use Rattle.std.specs.Prelude.{if◌then◌else◌, ◌==◌}
 use Rattle.heap_terms.specs.declared.cells.Cell.{Cell}
 use Rattle.heap_terms.specs.declared.cells.Cell.TheVariants.{Stack, Exact, Shared}
 use Rattle.heap_terms.specs.declared.cells.Value.{Value}
 use Rattle.heap_terms.specs.declared.cells.Value.TheVariants as values
 use Rattle.heap_terms.specs.declared.commands.Command.{Command}
-use Rattle.heap_terms.specs.declared.commands.Command.TheVariants as commands
-use Rattle.heap_terms.specs.declared.kinds.Kind.{Kind}
 use Rattle.heap_terms.specs.declared.kinds.PageType.{PageType}
 use Rattle.heap_terms.specs.declared.kinds.PageType.TheVariants as types
-use Rattle.heap_terms.specs.declared.pages.Entry.{Entry}
-use Rattle.heap_terms.specs.declared.pages.Next.{Next}
 use Rattle.heap_terms.specs.declared.pages.Next.TheVariants as nexts
 use Rattle.heap_terms.specs.declared.programs.Program.{Program}
 use Rattle.heap_terms.specs.Cells.{cell_value, with_cell}
-use Rattle.heap_terms.specs.Heap.{NamedHeap, Thread, thread_at, with_thread, object_at, entry_at, open_page}
-use Rattle.heap_terms.specs.Histories.{advance, next, next_for, next_command, next_unless_due, due, command_at}
-use Rattle.heap_terms.specs.Layout.{page_type_of, size_of}
-use Rattle.heap_terms.specs.Objects.{Object, kind_of}
-use Rattle.heap_terms.specs.Regions.{Wish, Nothing, Make, wish_of, has_room, is_small, page_has_room, run_has_room}
+use Rattle.heap_terms.specs.Heap.{NamedHeap, Thread, thread_at, with_thread, open_page}
+use Rattle.heap_terms.specs.Histories.{advance, next, next_command, due, command_at}
+use Rattle.heap_terms.specs.Objects.{Object}
+use Rattle.heap_terms.specs.Regions.{wish_of}
 use Rattle.heap_terms.specs.Simple.{effect_of, with_field_at}
 use Rattle.heap_terms.specs.WellFormed.{IsWellFormed}
 use Rattle.heap_terms.proofs.Effects.{by_effect}
@@ -69,9 +64,9 @@ exact-task th vs = record { done = refl; owed = refl; inhibits = refl; ended = r
 pub with_thread-board : (a : NamedHeap) (t : ℕ) (th : Thread) → IsSameTask (thread_at a t) th → IsSameBoard a (with_thread a t th)
 with_thread-board a t th same = record {
   tasks = λ u. elim (thread_cases a t u th) [
-        inl e ↦ rw e (same_task (thread_at a u))
-      | inr e ↦ rw (e.2, e.0) same
-      ];
+    | inl e ↦ rw e (same_task (thread_at a u))
+    | inr e ↦ rw (e.2, e.0) same
+  ];
   pages = refl;
   objects = refl;
   threads = length-set a.threads t th;
@@ -134,6 +129,6 @@ never_collects_command a t (Some c) last e = never_collects_for a t (wish_of c) 
 
 pub never_collects : (p : Program) (a : NamedHeap) (t last : ℕ) → IsWellFormed p a → next p a t ≡ nexts.Collect last → ⊥
 never_collects p a t last w e = elim (cases_Bool (thread_at a t).ended) [
-      inl ended ↦ (let never : nexts.Done ≡ nexts.Collect last = sym (next_ended p a t ended) ∙ e in cc)
-    | inr alive ↦ never_collects_command a t (command_at p a t) last (sym (next_alive p a t (w.owes_nothing t) alive) ∙ e)
-    ]
+  | inl ended ↦ (let never : nexts.Done ≡ nexts.Collect last = sym (next_ended p a t ended) ∙ e in cc)
+  | inr alive ↦ never_collects_command a t (command_at p a t) last (sym (next_alive p a t (w.owes_nothing t) alive) ∙ e)
+]

@@ -1,8 +1,8 @@
 -- A well-formed heap stays well-formed when a thread's cells change, when it goes on in its script and when it ends.
-use Rattle.std.proofs.Common.{◌≡◌, ◌≢◌, ℕ, zero, suc, ◌+◌, ◌*◌, ◌<◌, ◌≤◌, List, [], ◌∷◌, ◌++◌, length, Option, Some, None, Bool, true, false, ◌⊎◌, inl, inr, refl, sym, ◌∙◌, subst, ap, arith, get_or, set, replicate, map}
-use Rattle.std.proofs.lemmas.Bool.{cases_lt, cases_eq}
+use Rattle.std.proofs.Common.{◌≡◌, ◌≢◌, ℕ, ◌+◌, ◌<◌, ◌≤◌, List, [], length, Option, Some, None, Bool, true, false, ◌⊎◌, inl, inr, refl, sym, ◌∙◌, subst, arith, set, replicate, map}
+use Rattle.std.proofs.lemmas.Bool.{cases_lt}
 use Rattle.std.proofs.lemmas.List.{length-set, length-replicate, length-map, get_or-replicate, get_or_past, get_or-map, get_or-set_same, get_or-set_other}
-use Rattle.std.specs.Prelude.{IfSome, IsSome}
+use Rattle.std.specs.Prelude.{IfSome}
 use Rattle.heap_terms.specs.declared.cells.Cell.{Cell}
 use Rattle.heap_terms.specs.declared.cells.Cell.TheVariants.{Stack, Exact, Shared}
 use Rattle.heap_terms.specs.declared.cells.Value.{Value}
@@ -12,10 +12,10 @@ use Rattle.heap_terms.specs.declared.pages.Entry.{Entry}
 use Rattle.heap_terms.specs.declared.pages.Entry.TheVariants as entries
 use Rattle.heap_terms.specs.declared.programs.Program.{Program}
 use Rattle.heap_terms.specs.Cells.{with_cell}
-use Rattle.heap_terms.specs.Heap.{NamedHeap, Thread, start, thread_at, with_thread, fresh_thread, ended_thread, entry_at, fill_of, object_at, open_page, zero_value}
+use Rattle.heap_terms.specs.Heap.{NamedHeap, Thread, start, thread_at, with_thread, fresh_thread, ended_thread, entry_at, open_page}
 use Rattle.heap_terms.specs.Histories.{advance}
 use Rattle.heap_terms.specs.Objects.{Object}
-use Rattle.heap_terms.specs.WellFormed.{IsWellFormed, IsThread, IsLiving, IsOpenPage, IsOpenRun, IsFill}
+use Rattle.heap_terms.specs.WellFormed.{IsWellFormed, IsThread, IsLiving, IsOpenPage, IsOpenRun}
 use Rattle.heap_terms.proofs.Places.{set_cases, IfSome-at}
 use Rattle.heap_terms.proofs.Living.{AreLiving-set, AreLiving-zeros}
 
@@ -34,12 +34,12 @@ thread_cases a t u th = set_cases a.threads t u th (ended_thread fresh_thread)
 pub open_page_used : (p : Program) (a : NamedHeap) (t : ℕ) (ty : PageType) (page : ℕ) → IsWellFormed p a → open_page (thread_at a t) ty ≡ Some page →
     IsOpenPage ty page (entry_at a.pages page)
 open_page_used p a t ty page w e = elim (cases_lt t (length p.threads)) [
-      inl l ↦ IfSome-at (λ (x : ℕ). IsOpenPage ty x (entry_at a.pages x)) (open_page (thread_at a t) ty) page e ((w.threads t l).open_pages ty)
-    | inr l ↦ (
-        let past : length a.threads ≤ t = omega (arith, w.threads_length) in
-        let same : thread_at a t ≡ ended_thread fresh_thread = get_or_past a.threads t (ended_thread fresh_thread) past in
-        absurd (none_open ty page (subst (λ (th : Thread). open_page th ty ≡ Some page) same e)))
-    ]
+  | inl l ↦ IfSome-at (λ (x : ℕ). IsOpenPage ty x (entry_at a.pages x)) (open_page (thread_at a t) ty) page e ((w.threads t l).open_pages ty)
+  | inr l ↦ (
+      let past : length a.threads ≤ t = omega (arith, w.threads_length) in
+      let same : thread_at a t ≡ ended_thread fresh_thread = get_or_past a.threads t (ended_thread fresh_thread) past in
+      absurd (none_open ty page (subst (λ (th : Thread). open_page th ty ≡ Some page) same e)))
+]
   where
     none_open : (ty : PageType) (page : ℕ) → open_page (ended_thread fresh_thread) ty ≡ Some page → ⊥
     none_open types.Cons page e = cc
@@ -49,12 +49,12 @@ open_page_used p a t ty page w e = elim (cases_lt t (length p.threads)) [
 pub open_run_used : (p : Program) (a : NamedHeap) (t page : ℕ) → IsWellFormed p a → (thread_at a t).open_run ≡ Some page →
     IsOpenRun a.pages page
 open_run_used p a t page w e = elim (cases_lt t (length p.threads)) [
-      inl l ↦ IfSome-at (IsOpenRun a.pages) (thread_at a t).open_run page e (w.threads t l).open_run
-    | inr l ↦ (
-        let past : length a.threads ≤ t = omega (arith, w.threads_length) in
-        let same : thread_at a t ≡ ended_thread fresh_thread = get_or_past a.threads t (ended_thread fresh_thread) past in
-        let none : None ≡ Some page = subst (λ (th : Thread). th.open_run ≡ Some page) same e in cc)
-    ]
+  | inl l ↦ IfSome-at (IsOpenRun a.pages) (thread_at a t).open_run page e (w.threads t l).open_run
+  | inr l ↦ (
+      let past : length a.threads ≤ t = omega (arith, w.threads_length) in
+      let same : thread_at a t ≡ ended_thread fresh_thread = get_or_past a.threads t (ended_thread fresh_thread) past in
+      let none : None ≡ Some page = subst (λ (th : Thread). th.open_run ≡ Some page) same e in cc)
+]
 
 -- no two threads share an open page, nor an open run
 pub record AreOwn (a : NamedHeap) : Type 0 where
@@ -71,9 +71,9 @@ with_thread-own p a t th w well owed pins own = record {
   threads_length = length-set a.threads t th ∙ w.threads_length;
   shared_length = w.shared_length;
   threads = λ u l. elim (thread_cases a t u th) [
-        inl e ↦ rw e (w.threads u l)
-      | inr e ↦ rw e.2 (well (omega (arith, e.0)))
-      ];
+    | inl e ↦ rw e (w.threads u l)
+    | inr e ↦ rw e.2 (well (omega (arith, e.0)))
+  ];
   shared = w.shared;
   contents = w.contents;
   placed = w.placed;
@@ -83,13 +83,13 @@ with_thread-own p a t th w well owed pins own = record {
   own_pages = own.pages;
   own_runs = own.runs;
   owes_nothing = λ u. elim (thread_cases a t u th) [
-        inl e ↦ rw e (w.owes_nothing u)
-      | inr e ↦ rw e.2 owed
-      ];
+    | inl e ↦ rw e (w.owes_nothing u)
+    | inr e ↦ rw e.2 owed
+  ];
   pins_nothing = λ u. elim (thread_cases a t u th) [
-        inl e ↦ rw e (w.pins_nothing u)
-      | inr e ↦ rw e.2 pins
-      ];
+    | inl e ↦ rw e (w.pins_nothing u)
+    | inr e ↦ rw e.2 pins
+  ];
 }
 
 -- a thread has no more pages and runs than another
@@ -105,14 +105,15 @@ own_kept p a t th w no_more = record {
   where
     back : (u : ℕ) (ty : PageType) (page : ℕ) → open_page (thread_at (with_thread a t th) u) ty ≡ Some page → open_page (thread_at a u) ty ≡ Some page
     back u ty page e = elim (thread_cases a t u th) [
-          inl same ↦ rw same at e
-        | inr same ↦ rw same.0 (no_more.pages ty page (rw same.2 at e))
-        ]
+      | inl same ↦ rw same at e
+      | inr same ↦ rw same.0 (no_more.pages ty page (rw same.2 at e))
+    ]
+
     back_run : (u : ℕ) (page : ℕ) → (thread_at (with_thread a t th) u).open_run ≡ Some page → (thread_at a u).open_run ≡ Some page
     back_run u page e = elim (thread_cases a t u th) [
-          inl same ↦ rw same at e
-        | inr same ↦ rw same.0 (no_more.run page (rw same.2 at e))
-        ]
+      | inl same ↦ rw same at e
+      | inr same ↦ rw same.0 (no_more.run page (rw same.2 at e))
+    ]
 
 pub with_thread-kept : (p : Program) (a : NamedHeap) (t : ℕ) (th : Thread) → IsWellFormed p a →
     (t < length p.threads → IsThread a.objects a.pages th) → th.owed ≡ None → th.pins ≡ [] → HasNoMore (thread_at a t) th →
@@ -260,20 +261,20 @@ ended-kept p a t w =
 pub start_thread : (p : Program) (t : ℕ) → ((n : ℕ) × (ended : Bool) × (thread_at (start p) t ≡ record fresh_thread { done = n; ended = ended }))
 unfolding start
 start_thread p t = elim (cases_lt t (length p.threads)) [
-      inl l ↦ (0, false, get_or-map (λ _. fresh_thread) p.threads t [] (ended_thread fresh_thread) l)
-    | inr l ↦ (
-        let past : length (map (λ _. fresh_thread) p.threads) ≤ t = omega (arith, length-map p.threads (λ _. fresh_thread)) in
-        (0, true, get_or_past (map (λ _. fresh_thread) p.threads) t (ended_thread fresh_thread) past))
-    ]
+  | inl l ↦ (0, false, get_or-map (λ _. fresh_thread) p.threads t [] (ended_thread fresh_thread) l)
+  | inr l ↦ (
+      let past : length (map (λ _. fresh_thread) p.threads) ≤ t = omega (arith, length-map p.threads (λ _. fresh_thread)) in
+      (0, true, get_or_past (map (λ _. fresh_thread) p.threads) t (ended_thread fresh_thread) past))
+]
 
 pub start_free : (p : Program) (i : ℕ) → entry_at (start p).pages i ≡ entries.Free
 unfolding start
 start_free p i = elim (cases_lt i p.pages) [
-      inl l ↦ get_or-replicate p.pages i entries.Free entries.Free l
-    | inr l ↦ (
-        let past : length (replicate p.pages entries.Free) ≤ i = omega (arith, length-replicate p.pages entries.Free) in
-        get_or_past (replicate p.pages entries.Free) i entries.Free past)
-    ]
+  | inl l ↦ get_or-replicate p.pages i entries.Free entries.Free l
+  | inr l ↦ (
+      let past : length (replicate p.pages entries.Free) ≤ i = omega (arith, length-replicate p.pages entries.Free) in
+      get_or_past (replicate p.pages entries.Free) i entries.Free past)
+]
 
 pub start-well_formed : (p : Program) → IsWellFormed p (start p)
 unfolding start

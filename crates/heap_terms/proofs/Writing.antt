@@ -1,19 +1,19 @@
 -- A well-formed heap stays well-formed when a field of an object changes.
-use Rattle.std.proofs.Common.{◌≡◌, ◌≢◌, ℕ, zero, suc, ◌+◌, ◌*◌, ◌<◌, ◌≤◌, List, [], ◌∷◌, ◌++◌, length, Option, Some, None, Bool, true, false, ◌⊎◌, inl, inr, refl, sym, ◌∙◌, subst, ap, arith, get_or, set}
-use Rattle.std.specs.Prelude.{IfSome, IsSome}
+use Rattle.std.proofs.Common.{◌≡◌, ℕ, ◌+◌, ◌*◌, List, Option, Some, None, inl, inr, refl, sym, ◌∙◌, subst, set}
+use Rattle.std.specs.Prelude.{IfSome}
 use Rattle.heap_terms.specs.declared.cells.Value.{Value}
 use Rattle.heap_terms.specs.declared.cells.Value.TheVariants as values
 use Rattle.heap_terms.specs.declared.pages.Entry.{Entry}
 use Rattle.heap_terms.specs.declared.programs.Program.{Program}
-use Rattle.heap_terms.specs.Heap.{NamedHeap, Thread, object_at, entry_at, thread_at}
+use Rattle.heap_terms.specs.Heap.{NamedHeap, Thread, object_at, thread_at}
 use Rattle.heap_terms.specs.Layout.{page_words}
-use Rattle.heap_terms.specs.Objects.{Object, words_of_object}
+use Rattle.heap_terms.specs.Objects.{Object}
 use Rattle.heap_terms.specs.Simple.{with_field, with_field_at}
-use Rattle.heap_terms.specs.WellFormed.{IsWellFormed, IsThread, IsLiving, HoldsLiving, IsPlaced, AreApart, IsOwned, BelongsTo}
+use Rattle.heap_terms.specs.WellFormed.{IsWellFormed, IsThread, IsLiving, HoldsLiving, IsPlaced, AreApart, IsOwned}
 use Rattle.heap_terms.proofs.Places.{set_cases, IfSome-at, IfSome-from}
-use Rattle.heap_terms.proofs.Living.{AllStay, IsLiving-stays, AreLiving-stays, HoldsLiving-stays, with_field_living, write_stays}
+use Rattle.heap_terms.proofs.Living.{AllStay, AreLiving-stays, HoldsLiving-stays, with_field_living, write_stays}
 use Rattle.heap_terms.proofs.Staying.{IsSameShape, IsPlaced-shape, AreApart-shape, same_words}
-use Rattle.heap_terms.proofs.Effects.{with_field-kind, with_field-payload, fields_named}
+use Rattle.heap_terms.proofs.Effects.{with_field-kind, with_field-payload}
 
 pub same_shape : (o : Object) → IsSameShape o o
 same_shape o = record { place = refl; generation = refl; kind = refl; payload = refl }
@@ -30,21 +30,21 @@ field_same_shape o i v = record {
 pub old_shape : (objects : List (Option Object)) (name : ℕ) (o q : Object) → object_at objects name ≡ Some o → IsSameShape o q →
     (x : ℕ) (r : Object) → object_at (set objects name (Some q)) x ≡ Some r → (s : Object) × (object_at objects x ≡ Some s) × IsSameShape s r
 old_shape objects name o q e shape x r f = elim (set_cases objects name x (Some q) None) [
-      inl same ↦ (r, sym same ∙ f, same_shape r)
-    | inr same ↦ (
-        let here : q ≡ r = (let g = sym same.2 ∙ f in cc) in
-        (o, rw same.0 e, subst (λ (z : Object). IsSameShape o z) here shape))
-    ]
+  | inl same ↦ (r, sym same ∙ f, same_shape r)
+  | inr same ↦ (
+      let here : q ≡ r = (let g = sym same.2 ∙ f in cc) in
+      (o, rw same.0 e, subst (λ (z : Object). IsSameShape o z) here shape))
+]
 
 -- and each old one of the new one
 pub new_shape : (objects : List (Option Object)) (name : ℕ) (o q : Object) → object_at objects name ≡ Some o → IsSameShape o q →
     (x : ℕ) (s : Object) → object_at objects x ≡ Some s → (r : Object) × (object_at (set objects name (Some q)) x ≡ Some r) × IsSameShape s r
 new_shape objects name o q e shape x s f = elim (set_cases objects name x (Some q) None) [
-      inl same ↦ (s, same ∙ f, same_shape s)
-    | inr same ↦ (
-        let here : o ≡ s = (let g : object_at objects name ≡ Some s = rw same.0 at f in cc) in
-        (q, same.2, subst (λ (z : Object). IsSameShape z q) here shape))
-    ]
+  | inl same ↦ (s, same ∙ f, same_shape s)
+  | inr same ↦ (
+      let here : o ≡ s = (let g : object_at objects name ≡ Some s = rw same.0 at f in cc) in
+      (q, same.2, subst (λ (z : Object). IsSameShape z q) here shape))
+]
 
 -- an object is replaced by one of its shape that holds living values
 pub written-kept : (p : Program) (a : NamedHeap) (name : ℕ) (o q : Object) → IsWellFormed p a → object_at a.objects name ≡ Some o → IsSameShape o q →
@@ -59,10 +59,10 @@ written-kept p a name o q w e shape living =
       threads = λ t l. thread_stays a.objects new a.pages (thread_at a t) stay (w.threads t l);
       shared = AreLiving-stays a.objects new stay a.shared w.shared;
       contents = λ x. elim (set_cases a.objects name x (Some q) None) [
-            inl same ↦ rw same (IfSome-from (λ r. HoldsLiving new r.contents) (object_at a.objects x)
-              (λ r f. HoldsLiving-stays a.objects new stay r.contents (IfSome-at (λ r. HoldsLiving a.objects r.contents) (object_at a.objects x) r f (w.contents x))))
-          | inr same ↦ rw same.2 (HoldsLiving-stays a.objects new stay q.contents living)
-          ];
+        | inl same ↦ rw same (IfSome-from (λ r. HoldsLiving new r.contents) (object_at a.objects x)
+            (λ r f. HoldsLiving-stays a.objects new stay r.contents (IfSome-at (λ r. HoldsLiving a.objects r.contents) (object_at a.objects x) r f (w.contents x))))
+        | inr same ↦ rw same.2 (HoldsLiving-stays a.objects new stay q.contents living)
+      ];
       placed = λ x. IfSome-from (IsPlaced a.pages) (object_at new x) (λ r f.
           let s = old_shape a.objects name o q e shape x r f in
           IsPlaced-shape a.pages s.0 r s.2 (IfSome-at (IsPlaced a.pages) (object_at a.objects x) s.0 s.1 (w.placed x)));
@@ -90,6 +90,7 @@ written-kept p a name o q w e shape living =
       open_pages = h.open_pages;
       open_run = h.open_run;
     }
+
     owned_stays : (objects : List (Option Object)) (name : ℕ) (o q : Object) → object_at objects name ≡ Some o → IsSameShape o q → (index : ℕ) →
         IsOwned objects index → IsOwned (set objects name (Some q)) index
     owned_stays objects name o q e shape index h =

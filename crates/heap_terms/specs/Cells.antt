@@ -3,7 +3,7 @@ use Rattle.std.specs.Prelude.{ℕ, slice_index_or, slice_set}
 use Rattle.heap_terms.specs.declared.cells.Cell.{Cell}
 use Rattle.heap_terms.specs.declared.cells.Cell.TheVariants.{Stack, Exact, Shared}
 use Rattle.heap_terms.specs.declared.cells.Value.{Value}
-use Rattle.heap_terms.specs.Heap.{NamedHeap, Thread, thread_at, with_thread, zero_value}
+use Rattle.heap_terms.specs.Heap.{NamedHeap, thread_at, with_thread, zero_value}
 
 -- the value in a cell of thread t
 abbrev pub cell_value : NamedHeap → ℕ → Cell → Value

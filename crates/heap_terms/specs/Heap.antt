@@ -1,5 +1,5 @@
 -- The named heap: what a script's threads see, with names for objects in place of addresses.
-use Rattle.std.specs.Prelude.{ℕ, List, [], length, map, replicate, Option, Some, None, Bool, true, false, pos, slice_index_or, slice_set}
+use Rattle.std.specs.Prelude.{ℕ, List, [], map, replicate, Option, Some, None, Bool, true, false, pos, slice_index_or, slice_set}
 use Rattle.heap_terms.specs.declared.cells.Value.{Value}
 use Rattle.heap_terms.specs.declared.cells.Value.TheVariants as values
 use Rattle.heap_terms.specs.declared.pages.Entry.{Entry}

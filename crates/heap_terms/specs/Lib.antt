@@ -13,3 +13,8 @@ pub mod WellFormed
 pub mod Stands
 pub mod PageRuns
 pub mod Fresh
+pub mod Left
+pub mod Runs
+pub mod Order
+pub mod Plain
+pub mod Laws

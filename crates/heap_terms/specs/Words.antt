@@ -1,5 +1,5 @@
 -- The words of values and objects, given where the objects lie.
-use Rattle.std.specs.Prelude.{ℕ, List, [], ◌∷◌, ◌++◌, map, length, replicate, flat_map, take, Option, Some, None, ◌+◌, ◌-◌, ◌*◌, ◌^◌, pos}
+use Rattle.std.specs.Prelude.{ℕ, List, [], ◌∷◌, ◌++◌, map, length, replicate, flat_map, Option, Some, None, ◌+◌, ◌-◌, ◌*◌, ◌^◌, pos}
 use Rattle.heap_terms.specs.declared.cells.Value.{Value}
 use Rattle.heap_terms.specs.declared.cells.Value.TheVariants.{Fix, Nil, Unbound, Ref}
 use Rattle.heap_terms.specs.declared.kinds.Kind.{Kind}

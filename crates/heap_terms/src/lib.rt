@@ -9,6 +9,7 @@ pub mod commands;
 pub mod events;
 pub mod faults;
 pub mod kinds;
+pub mod laws;
 pub mod lists;
 pub mod pages;
 pub mod programs;

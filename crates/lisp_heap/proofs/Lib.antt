@@ -6,3 +6,10 @@ pub mod PutLemmas
 pub mod CommitLemmas
 pub mod Unchanged
 pub mod PerformLemmas
+pub mod Soundness
+pub mod WordReading
+pub mod Outcomes
+pub mod Commands
+pub mod Nexts
+pub mod Stepping
+pub mod Agreeing

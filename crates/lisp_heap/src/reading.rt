@@ -51,8 +51,10 @@ impl World {
         ensures { (v : NamedValue) → IsLiving (heap_of self.now).objects v →
             word ≡ word_of (heap_of self.now).objects v → IsConsAt (heap_of self.now).objects v result }
     {
-        match untag(word) {
-            Some((index, Lowtag::List)) => Some(index),
+        let _space = &self.space;
+        let (index, lowtag) = untag(word)?;
+        match lowtag {
+            Lowtag::List => Some(index),
             _ => None,
         }
     }
@@ -85,6 +87,7 @@ impl World {
         requires c { IsCell c }
         ensures { IsOutcome (heap_of self.now) t (commands.Show c) result.answer result.change }
     {
+        let _cells = &self.cells;
         let word = self.cell(t, c);
         Outcome {
             answer: Answer::Val(self.value_of(word)),
@@ -99,6 +102,7 @@ impl World {
         requires c { IsCell c }
         ensures { IsOutcome (heap_of self.now) t (commands.Get d c i) result.answer result.change }
     {
+        let _space = &self.space;
         let of = self.cell(t, c);
         let Some(index) = self.cons_at(of) else {
             return refused(Refusal::NotType);
@@ -120,6 +124,7 @@ impl World {
         requires a { IsCell a }
         ensures { IsOutcome (heap_of self.now) t (commands.Put c i a) result.answer result.change }
     {
+        let _space = &self.space;
         let of = self.cell(t, c);
         let Some(index) = self.cons_at(of) else {
             return refused(Refusal::NotType);
@@ -144,6 +149,7 @@ impl World {
         requires simple { next_of self.now t ≡ Next.Simple }
         ensures { IsOutcome (heap_of self.now) t command result.answer result.change }
     {
+        let _program = &self.program;
         match command {
             Command::Fix { d, n } => self.fixed(t, d, n),
             Command::Show { c } => self.shown(t, c),

@@ -1,0 +1,43 @@
+-- What is known of the heap for which a sound World stands.
+use Rattle.std.proofs.Common.{◌≡◌, ℕ, ◌+◌, ◌*◌, ◌<◌, ◌≤◌, List, length, map, refl, sym, ◌∙◌, subst, ap, arith, Option, Some, None}
+use Rattle.std.proofs.Math.ListN.{length-map}
+use Rattle.std.specs.Prelude.{IfSome}
+use Rattle.heap_terms.specs.declared.cells.Value.{Value}
+use Rattle.heap_terms.specs.Heap.{NamedHeap, object_at}
+use Rattle.heap_terms.specs.Histories.{replay}
+use Rattle.heap_terms.specs.Objects.{Object, Contents, ConsOf}
+use Rattle.heap_terms.specs.WellFormed.{IsWellFormed, IsLiving, HoldsLiving}
+use Rattle.heap_terms.proofs.Conses.{IsCons, only_conses, cons_contents}
+use Rattle.heap_terms.proofs.Places.{IfSome-at}
+use Rattle.heap_terms.proofs.Standing.{replay-well_formed}
+use Rattle.lisp_heap.specs.Sound.{IsSound, parts_of, view_of}
+use Rattle.lisp_heap.specs.Standing.{Holds}
+use Rattle.lisp_heap.specs.State.{state_of}
+use Rattle.lisp_heap.specs.View.{heap_of}
+use Rattle.lisp_heap.specs.declared.world.World.TheInside.{Inside}
+use Rattle.lisp_heap.proofs.CommitLemmas.{HoldLiving}
+use Rattle.lisp_heap.proofs.WordLemmas.{AreConses}
+
+-- the heap that a World's history leaves
+abbrev pub heap : Inside → NamedHeap
+heap s = replay s.program s.history.items
+
+pub well_formed : (s : Inside) → IsSound s → IsWellFormed s.program (heap s)
+well_formed s h = replay-well_formed s.program s.history.items h.valid h.lawful
+
+-- a well-formed heap of conses has living values in each of them
+pub living_in : (objects : List (Option Object)) → ((name : ℕ) → IfSome (object_at objects name) (λ o. HoldsLiving objects o.contents)) → HoldLiving objects
+living_in objects h name o p q there is =
+    subst (λ (k : Contents). HoldsLiving objects k) is (IfSome-at (λ (o : Object). HoldsLiving objects o.contents) (object_at objects name) o there (h name))
+
+pub conses : (s : Inside) → IsSound s → AreConses (heap s).objects
+conses s h name o there = cons_contents o.contents (IfSome-at IsCons (object_at (heap s).objects name) o there (only_conses s.program s.history.items h.valid h.lawful name))
+
+pub states_length : (s : Inside) → IsSound s → length s.states ≡ length s.program.threads
+states_length s h = ap length h.holds.states ∙ length-map (heap s).threads state_of ∙ (well_formed s h).threads_length
+
+pub cells_room : (s : Inside) (t : ℕ) → IsSound s → t < length s.program.threads →
+    (16 * t + 16 ≤ length s.cells.stack) × (16 * t + 16 ≤ length s.cells.exact) × (length s.cells.shared ≡ 16)
+cells_room s t h lt =
+    let wf = well_formed s h in
+    (omega (arith, h.holds.cells.stack_length, wf.threads_length), omega (arith, h.holds.cells.exact_length, wf.threads_length), h.holds.cells.shared_length)
