@@ -23,7 +23,7 @@ use Rattle.heap_terms.proofs.Committing.{room_page}
 use Rattle.heap_terms.proofs.Scripts.{script_wish, script_command}
 use Rattle.heap_terms.proofs.Threading.{open_page_used}
 use Rattle.lisp_heap.specs.Agreement.{Agrees, CanBuild, small_out}
-use Rattle.lisp_heap.specs.Parcels.{ParcelView, RegionView, place_of, HasRoom, IsMaking, room_of}
+use Rattle.lisp_heap.specs.Parcels.{ParcelView, RegionView, place_of, Fits, HasRoom, IsMaking, room_of}
 
 pub next_done : (p : Program) (a : NamedHeap) (t : ℕ) → (thread_at a t).ended ≡ true → nexts.Done ≡ next p a t
 unfolding next
@@ -65,7 +65,7 @@ cons_region a q page agrees e =
     some_place q.cons (small_out a.pages page) (agrees.cons ∙ ap (option_map (small_out a.pages)) e)
 
 has_room_in : (o : Option RegionView) (r : RegionView) (page fill : ℕ) → o ≡ Some r → place_of r ≡ (page, 1, page_words * page + fill) → fill + 2 ≤ page_words →
-    IsSomeAnd o (λ r. 2 ≤ room_of r)
+    IsSomeAnd o (Fits kinds.Cons 2)
 has_room_in None r page fill e place room = cc
 has_room_in (Some s) r page fill e place room =
     let same : s ≡ r = cc in
@@ -73,7 +73,7 @@ has_room_in (Some s) r page fill e place room =
     let pages : r.pages ≡ 1 = ap (λ (x : ℕ × ℕ × ℕ). x.1) place in
     let next_is : r.next ≡ page_words * page + fill = ap (λ (x : ℕ × ℕ × ℕ). x.2) place in
     let enough : 2 ≤ room_of r = omega (arith, first, pages, next_is, room) in
-    subst (λ (k : RegionView). 2 ≤ room_of k) (sym same) enough
+    subst (λ (k : RegionView). Fits kinds.Cons 2 k) (sym same) (enough, (λ large. cc))
 
 can_build_cons : (a : NamedHeap) (t : ℕ) (q : ParcelView) → q.owner ≡ t → Agrees a q → (b : Bool) → has_room a t kinds.Cons 2 ≡ b →
     CanBuild (if b then nexts.Build kinds.Cons 2 0 else nexts.Open) q

@@ -9,8 +9,8 @@ use Rattle.heap_terms.specs.Heap.{NamedHeap, thread_at, entry_at, fill_of}
 use Rattle.heap_terms.specs.Layout.{page_words}
 use Rattle.heap_terms.specs.Histories.{command_at, wish_at, wished_size}
 use Rattle.heap_terms.specs.Regions.{IsRun, pages_needed}
-use Rattle.lisp_heap.specs.declared.world.Lent.{Lent}
-use Rattle.lisp_heap.specs.declared.world.Lent.TheVariants as lents
+use Rattle.lisp_heap.specs.declared.allocating.Lent.{Lent}
+use Rattle.lisp_heap.specs.declared.allocating.Lent.TheVariants as lents
 use Rattle.lisp_heap.specs.Parcels.{ParcelView, RegionView, empty_parcel, place_of, HasRoom, HasBuilt, IsMaking}
 use Rattle.lisp_heap.specs.View.{View, heap_of}
 

@@ -9,3 +9,5 @@ pub mod Sound
 pub mod Outcome
 pub mod Wishes
 pub mod Reading
+pub mod Leases
+pub mod ParcelSound

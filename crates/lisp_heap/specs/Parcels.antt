@@ -1,20 +1,17 @@
 -- What contracts see of a Parcel: the open regions of one thread.
-use Rattle.std.specs.Prelude.{◌≡◌, ℕ, ◌+◌, ◌-◌, ◌*◌, ◌≤◌, ◌<◌, ◌^◌, Option, Some, None, IsSome, IfSome, IsSomeAnd, if◌then◌else◌, is_some, List}
+use Rattle.std.specs.Prelude.{◌≡◌, ℕ, ◌+◌, ◌-◌, ◌*◌, ◌≤◌, ◌<◌, ◌^◌, Option, Some, None, IsSome, IfSome, IsSomeAnd, option_map, if◌then◌else◌, is_some, List, false}
 use Rattle.heap_terms.specs.declared.kinds.Kind.{Kind}
 use Rattle.heap_terms.specs.declared.kinds.Kind.TheVariants as kinds
 use Rattle.heap_terms.specs.declared.kinds.PageType.{PageType}
 use Rattle.heap_terms.specs.declared.kinds.PageType.TheVariants as types
 use Rattle.heap_terms.specs.Layout.{page_words, page_type_of, size_of}
 use Rattle.heap_terms.specs.Regions.{is_small}
+use Rattle.lisp_heap.specs.declared.parcels.Making.{Making}
 
--- an object that was built in a region and not committed: its kind, its words of payload and its seed
-pub record Making : Type 0 where
-  pub kind : Kind
-  pub n : ℕ
-  pub seed : ℕ
-
--- a region: its first page, its pages, the index at which its next object begins, and what is built there
+-- a region: the type of its pages, its first page, its pages, the index at which its next object begins, and what
+-- is built there and not committed
 pub record RegionView : Type 0 where
+  pub ty : PageType
   pub first : ℕ
   pub pages : ℕ
   pub next : ℕ
@@ -46,9 +43,13 @@ region_for q kind n = if is_small (size_of kind n) then small_region q (page_typ
 abbrev pub room_of : RegionView → ℕ
 room_of r = page_words * (r.first + r.pages) - r.next
 
+-- a region has room for an object of a kind; a run for a large object was opened for its type of pages
+abbrev pub Fits : Kind → ℕ → RegionView → Type 0
+Fits kind n r = (size_of kind n ≤ room_of r) × (is_small (size_of kind n) ≡ false → r.ty ≡ page_type_of kind)
+
 -- an object can be built: the region of its class is there and has room
 abbrev pub HasRoom : ParcelView → Kind → ℕ → Type 0
-HasRoom q kind n = IsSomeAnd (region_for q kind n) (λ r. size_of kind n ≤ room_of r)
+HasRoom q kind n = IsSomeAnd (region_for q kind n) (Fits kind n)
 
 -- what `build` makes: n words of payload of a kind, and a seed
 abbrev pub IsMaking : Kind → ℕ → ℕ → Type 0
@@ -75,3 +76,15 @@ one_if (Some r) = 1
 
 abbrev pub regions_in : ParcelView → ℕ
 regions_in q = one_if q.cons + one_if q.boxed + one_if q.unboxed + one_if q.run
+
+-- the small region of conses after another one was opened
+abbrev pub with_cons : ParcelView → ℕ → ParcelView
+with_cons q first = record q { cons = Some (record { ty = types.Cons; first = first; pages = 1; next = page_words * first; built = None }) }
+
+-- a region after the cons that is built there was committed
+abbrev pub cons_accepted : RegionView → RegionView
+cons_accepted r = record r { next = r.next + 2; built = None }
+
+-- a parcel after the cons that is built there was committed
+abbrev pub with_accepted : ParcelView → ParcelView
+with_accepted q = record q { cons = option_map cons_accepted q.cons }

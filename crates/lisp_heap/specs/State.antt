@@ -1,5 +1,5 @@
 -- What the World keeps of a thread beside its cells.
-use Rattle.std.specs.Prelude.{ℕ, ◌+◌, List, Option, Some, None, false, slice_index_or, slice_set}
+use Rattle.std.specs.Prelude.{ℕ, ◌+◌, List, Option, Some, None, false, true, slice_index_or, slice_set}
 use Rattle.heap_terms.specs.declared.kinds.PageType.{PageType}
 use Rattle.heap_terms.specs.declared.kinds.PageType.TheVariants as types
 use Rattle.heap_terms.specs.Heap.{Thread}
@@ -28,3 +28,11 @@ abbrev pub advanced : List ThreadState → ℕ → List ThreadState
 advanced states t =
     let state = slice_index_or states t fresh_state in
     slice_set states t (record state { done = state.done + 1 })
+
+-- the states with another open page of conses of one thread
+abbrev pub with_cons_open : List ThreadState → ℕ → ℕ → List ThreadState
+with_cons_open states t page = slice_set states t (record (slice_index_or states t fresh_state) { cons_page = Some page })
+
+-- the states after one thread has ended
+abbrev pub with_ended : List ThreadState → ℕ → List ThreadState
+with_ended states t = slice_set states t (record fresh_state { done = (slice_index_or states t fresh_state).done; ended = true })

@@ -3,7 +3,9 @@
 //! that what the World keeps stands for the named heap which that history leaves.
 #![tactic(auto)]
 
+mod allocating;
 mod cells;
+mod making;
 mod outcome;
 mod parcels;
 mod reading;
@@ -11,5 +13,6 @@ mod states;
 mod world;
 
 pub use heap_terms::Next;
+pub use allocating::Lent;
 pub use parcels::Parcel;
-pub use world::{Lent, World};
+pub use world::World;

@@ -1,17 +1,44 @@
 //! The open regions of one thread.
 
-ghost use Rattle.std.specs.Prelude.{◌≡◌, ◌↔◌, IsTrue};
-ghost use Rattle.heap_terms.specs.declared.kinds.Kind.{Kind};
-ghost use Rattle.lisp_heap.specs.Parcels.{HasRoom, HasBuilt, IsMaking, regions_in};
+ghost use Rattle.std.specs.Prelude.{◌≡◌, ◌↔◌, ◌+◌, ◌*◌, ◌≤◌, ℕ, [], length, IsTrue, IsSome, IsSomeAnd, Some, None, option_map, is_some, if◌then◌else◌};
+ghost use Rattle.std.specs.Option.{ForSome};
+ghost use Rattle.heap_terms.specs.declared.kinds.Kind.TheVariants as kinds;
+ghost use Rattle.heap_terms.specs.declared.kinds.PageType.{PageType};
+ghost use Rattle.heap_terms.specs.declared.kinds.PageType.TheVariants as types;
+ghost use Rattle.heap_terms.specs.Layout.{page_type_of};
+ghost use Rattle.lisp_heap.specs.Leases.{region_view, IsLease, IsSmallLease};
+ghost use Rattle.lisp_heap.specs.Parcels.{Fits, HasRoom, HasBuilt, IsMaking, RegionView, empty_parcel, one_if, place_of, regions_in, small_region, with_accepted, with_cons};
 
-use heap_terms::{Kind, Owned};
-use std::convert::Infallible;
+use alloc_region::Region;
+use heap_terms::{Kind, Owned, PageType};
+use lisp_words::{page_type, size_of};
 use std::marker::Model;
+
+/// How many words a page has.
+const PAGE_WORDS: u32 = 512;
+
+/// An object to build: its kind, its words of payload and its seed.
+#[derive(Clone, Copy, Debug, PartialEq, Eq)]
+pub struct Making {
+    pub kind: Kind,
+    pub n: u32,
+    pub seed: u64,
+}
+
+/// A region that is out, and what is built there and not committed.
+pub struct Lease {
+    region: Region,
+    built: Option<Making>,
+}
 
 /// The open regions of one thread: a small one of each type, and one run for a large object. It
 /// has to be spent, by [`Parcel::put_away`]. Only `World::new` makes parcels.
 pub struct Parcel {
-    never: Infallible,
+    owner: u32,
+    cons: Option<Lease>,
+    boxed: Option<Lease>,
+    unboxed: Option<Lease>,
+    run: Option<Lease>,
 }
 
 impl Model for Parcel {
@@ -19,18 +46,93 @@ impl Model for Parcel {
 
     ghost Value = { ParcelView };
 
-    ghost view = { λ s. elim s.never [ ] };
+    ghost use Rattle.lisp_heap.specs.ParcelSound.{parcel_view, IsParcel};
+
+    ghost view = { parcel_view };
+
+    ghost invariant = { IsParcel };
 }
 
 impl Owned for Parcel {
     ghost owner_of = { λ q. q.owner };
 
     fn owner(&self) -> u32 {
-        match self.never {}
+        self.owner
+    }
+}
+
+/// Spends a region, and says how many that were.
+fn put_back(slot: Option<Lease>) -> u32
+    ensures { result ≡ one_if (option_map region_view slot) }
+{
+    match slot {
+        None => 0,
+        Some(Lease { region, built: _ }) => {
+            let _closed = region.close();
+            1
+        }
+    }
+}
+
+/// Builds an object in the region of a slot.
+fn build_in(slot: &mut Option<Lease>, making: Making)
+    requires there { IsSome slot.old }
+    requires fits { ForSome slot.old (λ l. Fits making.kind making.n (region_view l)) }
+    requires ty { ForSome slot.old (λ l. l.region.ty ≡ page_type_of making.kind) }
+    requires making { IsMaking making.kind making.n making.seed }
+    ensures view { option_map region_view slot.new ≡ option_map (λ l. record (region_view l) { built = Some making }) slot.old }
+    ensures lease { ForSome slot.new IsLease }
+    ensures small { (ty : PageType) → ForSome slot.old (IsSmallLease ty) → ForSome slot.new (IsSmallLease ty) }
+{
+    if let Some(lease) = slot {
+        lease.region.build(making.kind, making.n, making.seed);
+        lease.built = Some(making);
+    }
+}
+
+/// Whether just this object is built in the region of a slot.
+fn has_built_in(slot: &Option<Lease>, making: Making) -> bool
+    ensures { IsTrue result ↔ IsSomeAnd (option_map region_view slot.now) (λ r. r.built ≡ Some making) }
+{
+    match slot {
+        None => false,
+        Some(lease) => match lease.built {
+            None => false,
+            Some(built) => {
+                built.kind == making.kind && built.n == making.n && built.seed == making.seed
+            }
+        },
+    }
+}
+
+/// A region's first page, its pages, and where its next object begins.
+fn place(slot: &Option<Lease>) -> Option<(u32, u32, u32)>
+    ensures { result ≡ option_map place_of (option_map region_view slot.now) }
+{
+    match slot {
+        None => None,
+        Some(lease) => Some((
+            lease.region.first(),
+            lease.region.pages(),
+            lease.region.next(),
+        )),
     }
 }
 
 impl Parcel {
+    /// The parcel of a thread without regions. It takes no memory.
+    pub(crate) fn empty(owner: u32) -> Parcel
+        ensures { result ≡ empty_parcel owner }
+    {
+        Parcel {
+            owner,
+            cons: None,
+            boxed: None,
+            unboxed: None,
+            run: None,
+        }
+    }
+
     /// Builds an object of a kind with n words of payload in the region of its class; a cons has
     /// 2. What was built there and not committed is given up. It takes no memory.
     pub fn build(&mut self, kind: Kind, n: u32, seed: u64)
@@ -38,21 +140,114 @@ impl Parcel {
         requires making { IsMaking kind n seed }
         ensures built { HasBuilt self.new kind n seed }
         ensures owner { self.new.owner ≡ self.old.owner }
+        ensures cons { option_map place_of self.new.cons ≡ option_map place_of self.old.cons }
+        ensures boxed { option_map place_of self.new.boxed ≡ option_map place_of self.old.boxed }
+        ensures unboxed { option_map place_of self.new.unboxed ≡ option_map place_of self.old.unboxed }
+        ensures run { option_map place_of self.new.run ≡ option_map place_of self.old.run }
     {
-        match self.never {}
+        let making = Making { kind, n, seed };
+        if size_of(kind, n) > PAGE_WORDS {
+            build_in(&mut self.run, making);
+        } else {
+            match page_type(kind) {
+                PageType::Cons => build_in(&mut self.cons, making),
+                PageType::Boxed => build_in(&mut self.boxed, making),
+                PageType::Unboxed => build_in(&mut self.unboxed, making),
+            }
+        }
     }
 
     /// Whether just this object is built there and not committed. It takes no memory.
     pub fn has_built(&self, kind: Kind, n: u32, seed: u64) -> bool
+        requires { n ≤ 65535 }
         ensures { IsTrue result ↔ HasBuilt self.now kind n seed }
     {
-        match self.never {}
+        let making = Making { kind, n, seed };
+        if size_of(kind, n) > PAGE_WORDS {
+            return has_built_in(&self.run, making);
+        }
+        match page_type(kind) {
+            PageType::Cons => has_built_in(&self.cons, making),
+            PageType::Boxed => has_built_in(&self.boxed, making),
+            PageType::Unboxed => has_built_in(&self.unboxed, making),
+        }
     }
 
     /// Spends the parcel, and says how many regions were in it. It takes no memory.
     pub fn put_away(self) -> u32
         ensures { result ≡ regions_in self }
     {
-        match self.never {}
+        let Parcel {
+            owner: _,
+            cons,
+            boxed,
+            unboxed,
+            run,
+        } = self;
+        put_back(cons) + put_back(boxed) + put_back(unboxed) + put_back(run)
+    }
+
+    /// The place of the small region of a type.
+    pub(crate) fn small_place(&self, ty: PageType) -> Option<(u32, u32, u32)>
+        ensures { result ≡ option_map place_of (small_region self.now ty) }
+    {
+        match ty {
+            PageType::Cons => place(&self.cons),
+            PageType::Boxed => place(&self.boxed),
+            PageType::Unboxed => place(&self.unboxed),
+        }
+    }
+
+    /// The place of the run.
+    pub(crate) fn run_place(&self) -> Option<(u32, u32, u32)>
+        ensures { result ≡ option_map place_of self.now.run }
+    {
+        place(&self.run)
+    }
+
+    /// Where the next cons begins, an index in words.
+    pub(crate) fn next_cons(&self) -> u32
+        requires { IsSome self.now.cons }
+        ensures { (r : RegionView) → self.now.cons ≡ Some r → result ≡ r.next }
+    {
+        match &self.cons {
+            None => unreachable!(),
+            Some(lease) => lease.region.next(),
+        }
+    }
+
+    /// Takes a region of conses, in place of the one that is there.
+    pub(crate) fn adopt_cons(&mut self, region: Region)
+        requires ty { region.ty ≡ types.Cons }
+        requires pages { region.pages ≡ 1 }
+        requires next { region.next ≡ 512 * region.first }
+        ensures { self.new ≡ with_cons self.old region.first }
+    {
+        let old = self.cons.replace(Lease {
+            region,
+            built: None,
+        });
+        let _closed = put_back(old);
+    }
+
+    /// The cons that is built there was committed.
+    pub(crate) fn accept_cons(&mut self)
+        requires { HasBuilt self.old kinds.Cons 2 0 }
+        ensures { self.new ≡ with_accepted self.old }
+    {
+        if let Some(lease) = &mut self.cons {
+            lease.region.accept();
+            lease.built = None;
+        }
+    }
+
+    /// Closes all regions.
+    pub(crate) fn close_all(&mut self)
+        ensures { self.new ≡ empty_parcel self.old.owner }
+    {
+        let _cons = put_back(self.cons.take());
+        let _boxed = put_back(self.boxed.take());
+        let _unboxed = put_back(self.unboxed.take());
+        let _run = put_back(self.run.take());
     }
 }

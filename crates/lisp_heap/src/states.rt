@@ -2,7 +2,7 @@
 
 ghost use Rattle.std.specs.Prelude.{◌≡◌, ◌+◌, ◌<◌, ◌^◌, length, slice_get, replicate, IfOk};
 ghost use Rattle.std.specs.Option.{ForSome};
-ghost use Rattle.lisp_heap.specs.State.{advanced, fresh_state, state_page, with_state_page};
+ghost use Rattle.lisp_heap.specs.State.{advanced, fresh_state, state_page, with_cons_open, with_ended, with_state_page};
 
 use heap_terms::{Memory, PageType, Seq};
 use std::alloc::Global;
@@ -85,6 +85,37 @@ pub fn advance(states: &mut States, t: usize)
         ThreadState {
             done: state.done + 1,
             ..state
+        },
+    );
+}
+
+/// A page of conses is open for one thread from now on.
+pub fn open_cons(states: &mut States, t: usize, page: u32)
+    requires { t < length states.old }
+    ensures { states.new ≡ with_cons_open states.old t page }
+{
+    let state = states.at(t);
+    states.set(
+        t,
+        ThreadState {
+            cons_page: Some(page),
+            ..state
+        },
+    );
+}
+
+/// One thread has ended.
+pub fn end_state(states: &mut States, t: usize)
+    requires { t < length states.old }
+    ensures { states.new ≡ with_ended states.old t }
+{
+    let state = states.at(t);
+    states.set(
+        t,
+        ThreadState {
+            done: state.done,
+            ended: true,
+            ..ThreadState::fresh()
         },
     );
 }

@@ -156,12 +156,3 @@ impl World {
         Ok(())
     }
 }
-
-/// What `lend` did.
-#[derive(Clone, Copy, Debug, PartialEq, Eq)]
-pub enum Lent {
-    /// A region was opened and is in the parcel.
-    Opened,
-    /// No run of free pages is long enough: the command was answered `!exhausted`.
-    Exhausted,
-}

@@ -1,0 +1,14 @@
+use Rattle.std.proofs.Common.{◌≤◌, ◌<◌, ◌+◌, ◌-◌, length, vec_len}
+use Rattle.heap_io.specs.Streams.{Gave}
+use Rattle.heap_io.proofs.reading.read_pieces.Given as goal
+
+abbrev pub invariant-loop-bytes : goal.invariant-loop-bytes
+invariant-loop-bytes g l = record {
+  room : 0 < length l.piece;
+  within : vec_len l.bytes ≤ l.limit;
+  gave : Gave (g.S.Source.contents l.initial.source) (g.S.Source.contents l.source) l.bytes.items;
+  counted : g.S.Source.faults l.initial.source ≤ g.S.Source.faults l.source;
+}
+
+abbrev pub decreases-loop-bytes : goal.decreases-loop-bytes
+decreases-loop-bytes g l = l.limit + 1 - vec_len l.bytes

@@ -1,0 +1,14 @@
+use Rattle.std.proofs.Common.{length, ◌-◌, ◌≡◌, ◌≤◌, take}
+use Rattle.heap_io.specs.Streams.{Grew}
+use Rattle.heap_io.proofs.writing.write_all.Given as goal
+
+abbrev pub invariant-loop-written : goal.invariant-loop-written
+invariant-loop-written g l = record {
+  within : l.written ≤ length l.bytes;
+  appended : Grew (g.K.Sink.contents l.initial.sink) (g.K.Sink.contents l.sink) (take l.written l.bytes);
+  counted : g.K.Sink.faults l.initial.sink ≤ g.K.Sink.faults l.sink;
+  untouched : l.written ≡ 0 → l.sink ≡ l.initial.sink;
+}
+
+abbrev pub decreases-loop-written : goal.decreases-loop-written
+decreases-loop-written g l = length l.bytes - l.written

@@ -1,0 +1,25 @@
+use Rattle.std.proofs.Common.{rules, ◌≡◌, ◌↔◌, ◌≤◌, ◌<◌, ◌*◌, [], length, replicate, option_map, IsTrue, IfOk, ℕ, ◌+◌, ◌-◌, ◌/◌, ◌%◌, Bool, true, false, nat_eq, nat_lt, List, ◌∷◌, ◌++◌, slice_index_or, slice_set, bit_and, bit_or, Fits, w8, w32, w64, Bor, MutBor}
+use Rattle.std.specs.Option.{ForSome}
+use Rattle.heap_terms.specs.Heap.{entry_at, fill_of}
+use Rattle.heap_terms.specs.Valid.{IsValid}
+use Rattle.lisp_heap.specs.Agreement.{Agrees, AreFresh, run_out, run_pages_of, small_out}
+use Rattle.lisp_heap.specs.Parcels.{place_of, small_region}
+use Rattle.lisp_heap.specs.State.{state_page}
+use Rattle.lisp_heap.specs.View.{heap_of}
+use Rattle.lisp_heap.proofs.making.fresh_parcels.Goals as goal
+
+-- src/making.rt:32:5
+pub loop-t-init : goal.loop-t-init
+loop-t-init c = ?
+
+-- src/making.rt:33:9
+pub unwrap-requires : goal.unwrap-requires
+unwrap-requires c = ?
+
+-- src/making.rt:32:5
+pub loop-t-preserved : goal.loop-t-preserved
+loop-t-preserved c = ?
+
+-- src/making.rt:28:1
+pub returns : goal.returns
+returns c = ?

@@ -1,0 +1,147 @@
+//! A World before its first event, and whether a parcel agrees with a World.
+
+ghost use Rattle.std.specs.Prelude.{◌≡◌, ◌↔◌, ◌≤◌, ◌<◌, ◌*◌, [], length, replicate, option_map, IsTrue, IfOk};
+ghost use Rattle.std.specs.Option.{ForSome};
+ghost use Rattle.heap_terms.specs.Heap.{entry_at, fill_of};
+ghost use Rattle.heap_terms.specs.Valid.{IsValid};
+ghost use Rattle.lisp_heap.specs.Agreement.{Agrees, AreFresh, run_out, run_pages_of, small_out};
+ghost use Rattle.lisp_heap.specs.Parcels.{place_of, small_region};
+ghost use Rattle.lisp_heap.specs.State.{state_page};
+ghost use Rattle.lisp_heap.specs.View.{heap_of};
+
+use crate::cells::CellWords;
+use crate::parcels::Parcel;
+use crate::states::{ThreadState, fresh_states};
+use crate::world::World;
+use heap_terms::{Entry, Memory, Owned, PageType, Program, Seq};
+use page_table::PageTable;
+use std::alloc::Global;
+use word_space::Space;
+
+/// How many double words a page has, each of which has a label.
+const PAGE_LABELS: usize = 256;
+
+/// How many words a page has.
+const PAGE_WORDS: u32 = 512;
+
+/// The parcels of so many threads, each empty.
+fn fresh_parcels(alloc: Global, threads: u32) -> Result<Vec<Parcel>, Memory>
+    ensures { IfOk result (λ parcels. AreFresh parcels.items threads) }
+{
+    let mut parcels = Vec::with_capacity(alloc, threads as usize)?;
+    for t in 0..threads {
+        parcels.push(Parcel::empty(t)).unwrap();
+    }
+    Ok(parcels)
+}
+
+/// The labels of so many pages, each 0.
+fn fresh_labels(alloc: Global, pages: u32) -> Result<Seq<u32>, Memory>
+    requires { pages ≤ 1024 }
+    ensures { IfOk result (λ labels. labels ≡ replicate (256 * pages) 0) }
+{
+    let mut labels = Vec::new(alloc);
+    match labels.resize(PAGE_LABELS * pages as usize, 0) {
+        Ok(()) => Ok(Seq::from_vec(labels)),
+        Err(_) => Err(Memory),
+    }
+}
+
+impl World {
+    /// The World of a valid program before its first event, and one empty parcel for each thread,
+    /// by owner.
+    pub fn new(alloc: Global, program: Program) -> Result<(World, Vec<Parcel>), Memory>
+        requires { IsValid program }
+        ensures program { IfOk result (λ made. made.0.program ≡ program) }
+        ensures history { IfOk result (λ made. made.0.history ≡ []) }
+        ensures parcels { IfOk result (λ made. AreFresh made.1.items (length program.threads)) }
+    {
+        let threads = program.threads.len();
+        let space = Space::new(alloc, program.pages)?;
+        let pages = PageTable::new(alloc, program.pages)?;
+        let labels = fresh_labels(alloc, program.pages)?;
+        let cells = CellWords::new(alloc, threads)?;
+        let states = fresh_states(alloc, threads)?;
+        let parcels = fresh_parcels(alloc, threads as u32)?;
+        let world = World {
+            program,
+            space,
+            pages,
+            labels,
+            cells,
+            states,
+            commits: 0,
+            history: Vec::new(alloc),
+        };
+        Ok((world, parcels))
+    }
+
+    /// Whether the parcel has just the regions that are out for its owner. It takes no memory.
+    pub fn agrees(&self, parcel: &Parcel) -> bool
+        ensures { IsTrue result ↔ Agrees (heap_of self.now) parcel.now }
+    {
+        let owner = parcel.owner() as usize;
+        let state = if owner < self.states.len() {
+            self.states.at(owner)
+        } else {
+            ThreadState::fresh()
+        };
+        self.small_agrees(parcel, state, PageType::Cons)
+            && self.small_agrees(parcel, state, PageType::Boxed)
+            && self.small_agrees(parcel, state, PageType::Unboxed)
+            && self.run_agrees(parcel, state)
+    }
+
+    /// Whether the parcel's small region of a type is on the open page of a state.
+    fn small_agrees(&self, parcel: &Parcel, state: ThreadState, ty: PageType) -> bool
+        requires { ForSome (state_page state ty) (λ page. page < length (heap_of self.now).pages) }
+        ensures { IsTrue result ↔ (option_map place_of (small_region parcel.now ty) ≡ option_map (small_out (heap_of self.now).pages) (state_page state ty)) }
+    {
+        match (parcel.small_place(ty), state.open_page(ty)) {
+            (None, None) => true,
+            (Some((first, pages, next)), Some(page)) => {
+                first == page && pages == 1 && next == PAGE_WORDS * page + self.fill(page)
+            }
+            _ => false,
+        }
+    }
+
+    /// Whether the parcel's run is the open run of a state.
+    fn run_agrees(&self, parcel: &Parcel, state: ThreadState) -> bool
+        requires { ForSome state.open_run (λ page. page < length (heap_of self.now).pages) }
+        ensures { IsTrue result ↔ (option_map place_of parcel.now.run ≡ option_map (run_out (heap_of self.now).pages) state.open_run) }
+    {
+        match (parcel.run_place(), state.open_run) {
+            (None, None) => true,
+            (Some((first, pages, next)), Some(page)) => {
+                first == page && pages == self.run_pages(page) && next == PAGE_WORDS * page
+            }
+            _ => false,
+        }
+    }
+
+    /// How many words of a page are used.
+    fn fill(&self, page: u32) -> u32
+        requires { page < length (heap_of self.now).pages }
+        ensures value { result ≡ fill_of (entry_at (heap_of self.now).pages page) }
+        ensures most { result ≤ 512 }
+        ensures page { page < 1024 }
+    {
+        match self.pages.entry(page) {
+            Entry::Free => 0,
+            Entry::Used { fill, .. } => fill,
+        }
+    }
+
+    /// How many pages the run of a page has.
+    fn run_pages(&self, page: u32) -> u32
+        requires { page < length (heap_of self.now).pages }
+        ensures value { result ≡ run_pages_of (entry_at (heap_of self.now).pages page) }
+        ensures page { page < 1024 }
+    {
+        match self.pages.entry(page) {
+            Entry::Free => 0,
+            Entry::Used { run_pages, .. } => run_pages,
+        }
+    }
+}
