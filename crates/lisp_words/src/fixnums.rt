@@ -1,6 +1,6 @@
 //! Fixnums: an integer n is the word 2n modulo 2^64, so bit 0 is clear, as in SBCL.
 
-ghost use Rattle.std.specs.Prelude.{◌≡◌, ◌%◌, ◌↔◌, ◌≢◌, IsNone, IfSome};
+ghost use Rattle.std.specs.Prelude.{◌≡◌, ℤ, ◌%◌, ◌↔◌, ◌≢◌, IsNone, IfSome};
 ghost use Rattle.heap_terms.specs.Layout.{fixnum_word};
 ghost use Rattle.heap_terms.specs.Valid.{IsFixnum};
 
@@ -26,6 +26,7 @@ pub fn fixnum(n: i64) -> Option<u64>
 /// The fixnum of a word; `None` exactly where bit 0 is set.
 pub fn read_fixnum(word: u64) -> Option<i64>
     ensures fixnum { IfSome result (λ n. (word ≡ fixnum_word n) × IsFixnum n) }
+    ensures only { (n : ℤ) → IsFixnum n → word ≡ fixnum_word n → result ≡ Some n }
     ensures none { IsNone result ↔ (word % 2 ≡ 1) }
 {
     if word % 2 == 1 {

@@ -50,6 +50,7 @@ fn kind_of_byte(byte: u64) -> Option<Kind>
 /// n below 2^32 gives this word.
 pub fn read_header(word: u64) -> Option<(Kind, u32)>
     ensures header { IfSome result (λ found. IsHeader word found.0 found.1) }
+    ensures only { (kind : Kind) (n : ℕ) → IsHeader word kind n → result ≡ Some (kind, n) }
     ensures none { IsNone result → (kind : Kind) (n : ℕ) → IsHeader word kind n → ⊥ }
 {
     let n = word / 256;

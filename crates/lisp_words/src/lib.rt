@@ -9,3 +9,6 @@ pub mod pointers;
 pub use fixnums::{fixnum, read_fixnum};
 pub use layouts::{header, page_type, read_header, size_of};
 pub use pointers::{Lowtag, tag, untag};
+
+#[cfg(test)]
+mod tests;

@@ -50,6 +50,7 @@ fn bits(kind: Kind) -> u64
 /// index below 524,288 plus one of the four lowtags.
 pub fn untag(word: u64) -> Option<(u32, Lowtag)>
     ensures tagged { IfSome result (λ found. IsTagged word found.0 found.1) }
+    ensures only { (index : ℕ) (tag : Lowtag) → IsTagged word index tag → result ≡ Some (index, tag) }
     ensures none { IsNone result → (index : ℕ) (tag : Lowtag) → IsTagged word index tag → ⊥ }
 {
     if word < BASE || word >= BASE + 8 * MOST_WORDS {
