@@ -1,5 +1,5 @@
 -- What a thread may do next is one event, so that the order of the threads determines a history.
-use Rattle.std.proofs.Common.{◌≡◌, ◌≢◌, ℕ, ◌<◌, ◌≤◌, List, [], ◌∷◌, map, Option, Some, None, Bool, true, false, ◌⊎◌, inl, inr, refl, sym, ◌∙◌, subst, ap, arith}
+use Rattle.std.proofs.Common.{◌≡◌, ℕ, List, [], ◌∷◌, map, Option, inl, inr, refl, sym, ◌∙◌, subst, ap}
 use Rattle.std.proofs.lemmas.Bool.{cases_order}
 use Rattle.std.proofs.lemmas.Option.{same_Some}
 use Rattle.heap_terms.specs.declared.answers.Answer.{Answer}
@@ -7,7 +7,6 @@ use Rattle.heap_terms.specs.declared.commands.Command.{Command}
 use Rattle.heap_terms.specs.declared.events.Event.{Event}
 use Rattle.heap_terms.specs.declared.events.Event.TheVariants.{Did, Opened, Collected, Ended}
 use Rattle.heap_terms.specs.declared.events.PassRecord.{PassRecord}
-use Rattle.heap_terms.specs.declared.kinds.Kind.{Kind}
 use Rattle.heap_terms.specs.declared.kinds.PageType.{PageType}
 use Rattle.heap_terms.specs.declared.pages.Entry.{Entry}
 use Rattle.heap_terms.specs.declared.pages.Next.{Next}
@@ -15,9 +14,7 @@ use Rattle.heap_terms.specs.declared.pages.Next.TheVariants as nexts
 use Rattle.heap_terms.specs.declared.programs.Program.{Program}
 use Rattle.heap_terms.specs.Heap.{NamedHeap, start}
 use Rattle.heap_terms.specs.Histories.{IsNext, IsAnswer, IsOpening, after, Lawful, LawfulFrom, command_at, wish_at, wished_size, next, thread_of}
-use Rattle.heap_terms.specs.Layout.{size_of}
 use Rattle.heap_terms.specs.Regions.{Wish, Nothing, Make, wish_of, pages_needed, IsRun, IsLowestRun, HasNoRun}
-use Rattle.heap_terms.specs.Simple.{answer_of}
 
 -- the lowest run begins at one page
 pub lowest_same : (pages : List Entry) (first other k : ℕ) → IsLowestRun pages first k → IsLowestRun pages other k → first ≡ other
