@@ -9,3 +9,7 @@ pub mod Regions
 pub mod Histories
 pub mod Complete
 pub mod Text
+pub mod WellFormed
+pub mod Fields
+pub mod Grammar
+pub mod Reading

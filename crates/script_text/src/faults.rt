@@ -1,0 +1,40 @@
+//! Why a script could not be read.
+
+ghost use Rattle.std.specs.Prelude.{◌≡◌};
+ghost use Rattle.script_text.specs.declared.faults.ScriptFault.TheVariants.{Memory};
+
+use heap_terms::{LimitKind, Why};
+use std::alloc::{AllocError, AllocFailed};
+use thiserror::Error;
+
+/// Why a script could not be read. Lines are numbered from 1, and every line counts, also an empty
+/// one and one that is a comment. The checks and the limits are this project's own.
+#[derive(Clone, Copy, Debug, PartialEq, Eq, Error)]
+pub enum ScriptFault {
+    /// The first bad line, and the first check that fails on it. Where the input ends without
+    /// `end`, the reason is `Missing` and the number is that of the lines plus 1.
+    #[error("line {0}: {1:?}")]
+    Line(u32, Why),
+    /// The first bad line passes every check and then a limit.
+    #[error("line {0}: too many {1:?}")]
+    Limit(u32, LimitKind),
+    /// Want of memory, and nothing else.
+    #[error("out of memory")]
+    Memory,
+}
+
+impl From<AllocError> for ScriptFault {
+    ghost from_gives = { λ _ e. e ≡ Memory };
+
+    fn from(_e: AllocError) -> ScriptFault {
+        ScriptFault::Memory
+    }
+}
+
+impl<T: Drop> From<AllocFailed<T>> for ScriptFault {
+    ghost from_gives = { λ _ e. e ≡ Memory };
+
+    fn from(_e: AllocFailed<T>) -> ScriptFault {
+        ScriptFault::Memory
+    }
+}
