@@ -2,6 +2,8 @@
 #![tactic(auto)]
 
 mod faults;
+mod values;
+mod words;
 
 ghost use Rattle.std.specs.Prelude.{◌<◌, ◌-◌, ◌^◌, length, IfOk};
 ghost use Rattle.heap_terms.specs.Reading.{read_script};
