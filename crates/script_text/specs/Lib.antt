@@ -2,3 +2,4 @@ pub mod Gives
 pub mod Words
 pub mod Values
 pub mod Left
+pub mod Commands

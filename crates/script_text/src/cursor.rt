@@ -1,10 +1,16 @@
 //! The bytes of a script that are not read yet.
 
-ghost use Rattle.std.specs.Prelude.{◌≡◌, ◌↔◌, ◌<◌, ◌≤◌, ◌+◌, ◌==◌, [], length, drop, false, IsTrue, MatchOption, slice_index};
+ghost use Rattle.std.specs.Prelude.{◌≡◌, ◌↔◌, ◌<◌, ◌≤◌, ◌+◌, ◌==◌, [], ◌∷◌, IfOk, IfErr, OnOk, length, drop, false, IsTrue, MatchOption, slice_index};
 ghost use Rattle.std.specs.Str.Lines.{lines};
 ghost use Rattle.script_text.specs.Left.{ends_field, field_len, SameLeft, starts_with_blank, Taken, NoneLeft, fields_left, lines_after};
 ghost use Rattle.heap_terms.specs.Fields.{is_blank};
 
+ghost use Rattle.heap_terms.specs.Fields.{ranged, is_fixnum, signed_of};
+ghost use Rattle.heap_terms.specs.declared.faults.Why.TheVariants.{Fields};
+ghost use Rattle.script_text.specs.Commands.{Moved, but_first, in_first, a_cell, an_index};
+
+use crate::values::{cell, fixnum, number_up_to};
+use heap_terms::{Cell, Why};
 use std::marker::Model;
 
 /// Whether a field ends at byte `at`: at a blank, at an LF or at a CR before an LF.
@@ -91,6 +97,52 @@ impl<'a> Cursor<'a> {
             return None;
         }
         Some(field)
+    }
+
+    /// The cursor at the same place.
+    pub(crate) fn here(&self) -> Cursor<'a>
+        ensures { result ≡ self.now }
+    {
+        Cursor { rest: self.rest }
+    }
+
+    /// The next field, where the line has one.
+    fn field(&mut self) -> Result<&'a [u8], Why>
+        ensures some { IfOk result (λ field. fields_left self.old ≡ field.now ∷ but_first (fields_left self.old)) }
+        ensures none { IfErr result (λ why. (why ≡ Fields) × (fields_left self.old ≡ [])) }
+        ensures moved { OnOk result (Moved self.old self.new) }
+    {
+        match self.next_field() {
+            Some(field) => Ok(field),
+            None => Err(Why::Fields),
+        }
+    }
+
+    /// A Lisp cell.
+    pub(crate) fn cell(&mut self) -> Result<Cell, Why>
+        ensures value { result ≡ in_first a_cell (fields_left self.old) }
+        ensures moved { OnOk result (Moved self.old self.new) }
+    {
+        let field = self.field()?;
+        cell(field)
+    }
+
+    /// An index of a field or an element.
+    pub(crate) fn index(&mut self) -> Result<u32, Why>
+        ensures value { result ≡ in_first an_index (fields_left self.old) }
+        ensures moved { OnOk result (Moved self.old self.new) }
+    {
+        let field = self.field()?;
+        number_up_to(field, 65535)
+    }
+
+    /// A fixnum.
+    pub(crate) fn fixnum(&mut self) -> Result<i64, Why>
+        ensures value { result ≡ in_first (λ f. ranged is_fixnum (signed_of f)) (fields_left self.old) }
+        ensures moved { OnOk result (Moved self.old self.new) }
+    {
+        let field = self.field()?;
+        fixnum(field)
     }
 
     /// Goes to the line after this one.

@@ -4,7 +4,7 @@ ghost use Rattle.std.specs.Prelude.{◌≡◌, ℕ, ◌+◌, ◌-◌, ◌^◌, �
 ghost use Rattle.std.specs.Char.{is_digit};
 ghost use Rattle.std.specs.List.{list_all};
 ghost use Rattle.std.specs.Str.Parse.{digits_value};
-ghost use Rattle.heap_terms.specs.Fields.{turns_of, turns_of_parts, number_of, cell_number, cell_of, ranged, between, at_least, is_fixnum, signed_of};
+ghost use Rattle.heap_terms.specs.Fields.{turns_of, turns_of_parts, number_of, cell_number, cell_of, ranged, between, at_most, at_least, is_fixnum, signed_of};
 ghost use Rattle.heap_terms.specs.declared.faults.Why.TheVariants.{Form};
 
 ghost use Rattle.script_text.specs.Values.{pages_of, one_by_one};
@@ -37,15 +37,31 @@ pub(crate) fn number(field: &[u8]) -> Option<u64>
     value_of_digits(field)
 }
 
-/// A number from `least` to `most`.
-pub(crate) fn number_between(field: &[u8], least: u32, most: u32) -> Result<u32, Why>
-    ensures { result ≡ ranged (between least most) (number_of field.now) }
+/// A number up to `most`.
+pub(crate) fn number_up_to(field: &[u8], most: u32) -> Result<u32, Why>
+    ensures { result ≡ ranged (at_most most) (number_of field.now) }
 {
     match number(field) {
         None => Err(Why::Form),
         Some(n) => {
-            if u64::from(least) <= n && n <= u64::from(most) {
+            if n <= u64::from(most) {
                 Ok(n as u32)
+            } else {
+                Err(Why::Range)
+            }
+        }
+    }
+}
+
+/// The version, which is 1.
+pub(crate) fn version(field: &[u8]) -> Result<u64, Why>
+    ensures { result ≡ ranged (between 1 1) (number_of field.now) }
+{
+    match number(field) {
+        None => Err(Why::Form),
+        Some(n) => {
+            if n == 1 {
+                Ok(n)
             } else {
                 Err(Why::Range)
             }
