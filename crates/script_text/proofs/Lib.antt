@@ -1,3 +1,4 @@
 pub mod Digits
 pub mod Stars
 pub mod Lines
+pub mod Rows

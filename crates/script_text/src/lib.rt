@@ -2,6 +2,7 @@
 #![tactic(auto)]
 
 mod faults;
+mod commands;
 mod cursor;
 mod values;
 mod words;
