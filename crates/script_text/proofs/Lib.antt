@@ -2,3 +2,4 @@ pub mod Digits
 pub mod Stars
 pub mod Lines
 pub mod Rows
+pub mod Turning

@@ -3,3 +3,5 @@ pub mod Words
 pub mod Values
 pub mod Left
 pub mod Commands
+pub mod Answers
+pub mod Reader

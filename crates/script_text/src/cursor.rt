@@ -7,6 +7,7 @@ ghost use Rattle.heap_terms.specs.Fields.{is_blank};
 
 ghost use Rattle.heap_terms.specs.Fields.{ranged, is_fixnum, signed_of};
 ghost use Rattle.heap_terms.specs.declared.faults.Why.TheVariants.{Fields};
+ghost use Rattle.script_text.specs.Answers.{only_field};
 ghost use Rattle.script_text.specs.Commands.{Moved, but_first, in_first, a_cell, an_index};
 
 use crate::values::{cell, fixnum, number_up_to};
@@ -115,6 +116,20 @@ impl<'a> Cursor<'a> {
         match self.next_field() {
             Some(field) => Ok(field),
             None => Err(Why::Fields),
+        }
+    }
+
+    /// The field of a line that has one alone.
+    pub(crate) fn only_field(&mut self) -> Result<&'a [u8], Why>
+        ensures some { IfOk result (λ field. only_field (fields_left self.old) ≡ Ok field.now) }
+        ensures none { IfErr result (λ why. only_field (fields_left self.old) ≡ Err why) }
+        ensures lines { OnOk result (lines_after self.new ≡ lines_after self.old) }
+    {
+        let field = self.field()?;
+        if self.has_fields(0) {
+            Ok(field)
+        } else {
+            Err(Why::Fields)
         }
     }
 

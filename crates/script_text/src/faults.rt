@@ -1,6 +1,7 @@
 //! Why a script could not be read.
 
 ghost use Rattle.std.specs.Prelude.{◌≡◌};
+ghost use Rattle.script_text.specs.declared.faults.LineFault.TheVariants as lines;
 ghost use Rattle.script_text.specs.declared.faults.ScriptFault.TheVariants.{Memory};
 
 use heap_terms::{LimitKind, Why};
@@ -36,5 +37,40 @@ impl<T: Drop> From<AllocFailed<T>> for ScriptFault {
 
     fn from(_e: AllocFailed<T>) -> ScriptFault {
         ScriptFault::Memory
+    }
+}
+
+/// Why a line is refused.
+#[derive(Clone, Copy)]
+pub(crate) enum LineFault {
+    /// A check fails.
+    Bad(Why),
+    /// It passes a limit.
+    Over(LimitKind),
+    /// Want of memory.
+    Memory,
+}
+
+impl From<Why> for LineFault {
+    ghost from_gives = { λ why e. e ≡ lines.Bad why };
+
+    fn from(why: Why) -> LineFault {
+        LineFault::Bad(why)
+    }
+}
+
+impl From<AllocError> for LineFault {
+    ghost from_gives = { λ _ e. e ≡ lines.Memory };
+
+    fn from(_e: AllocError) -> LineFault {
+        LineFault::Memory
+    }
+}
+
+impl<T: Drop> From<AllocFailed<T>> for LineFault {
+    ghost from_gives = { λ _ e. e ≡ lines.Memory };
+
+    fn from(_e: AllocFailed<T>) -> LineFault {
+        LineFault::Memory
     }
 }

@@ -4,6 +4,8 @@
 mod faults;
 mod commands;
 mod cursor;
+mod reader;
+mod schedules;
 mod values;
 mod words;
 
