@@ -23,3 +23,4 @@ pub record Counts (r : Inside) : Type 0 where
   pub commands_most : r.commands ≤ 20000
   pub gcs : r.gcs ≡ sum_by (count_by is_gc) r.threads.items
   pub gcs_most : r.gcs ≤ 64
+  pub schedule : length r.schedule.items ≤ 1000000

@@ -1,12 +1,13 @@
-//! The commands of a script.
+//! What the fields of a line say, behind its word.
 
-ghost use Rattle.std.specs.Prelude.{◌≡◌, ℕ, [], OnOk, drop};
-ghost use Rattle.heap_terms.specs.Grammar.{statement_of};
+ghost use Rattle.std.specs.Prelude.{◌≡◌, ℕ, ◌-◌, ◌^◌, [], OnOk, IfOk, IfErr, Ok, Err, drop, min, codes};
+ghost use Rattle.heap_terms.specs.Grammar.{Version, HeapOf, statement_of};
 ghost use Rattle.script_text.specs.Commands.{front_command, field_count, does};
 ghost use Rattle.script_text.specs.Left.{fields_left, lines_after};
 ghost use Rattle.script_text.specs.Words.{text_of_name};
 
 use crate::cursor::Cursor;
+use crate::values::{page_count, version};
 use crate::words::Name;
 use heap_terms::{Command, Why};
 
@@ -21,6 +22,27 @@ impl Name {
             Name::Cons | Name::Get | Name::Put => 3,
         }
     }
+}
+
+/// The version of a `lispheap` line, which is 1.
+pub(crate) fn version_of(left: &mut Cursor) -> Result<(), Why>
+    ensures good { IfOk result (λ _. (threads : ℕ) → statement_of threads (codes "lispheap") (fields_left left.old) ≡ Ok Version) }
+    ensures bad { IfErr result (λ why. (threads : ℕ) → statement_of threads (codes "lispheap") (fields_left left.old) ≡ Err why) }
+    ensures lines { OnOk result (lines_after left.new ≡ lines_after left.old) }
+{
+    let field = left.only_field()?;
+    version(field)?;
+    Ok(())
+}
+
+/// The pages of a `heap` line; a number above `u64::MAX` is given as `u64::MAX`.
+pub(crate) fn pages_of(left: &mut Cursor) -> Result<u64, Why>
+    ensures good { IfOk result (λ pages. (n : ℕ) × (pages ≡ min n (2 ^ 64 - 1)) × ((threads : ℕ) → statement_of threads (codes "heap") (fields_left left.old) ≡ Ok (HeapOf n))) }
+    ensures bad { IfErr result (λ why. (threads : ℕ) → statement_of threads (codes "heap") (fields_left left.old) ≡ Err why) }
+    ensures lines { OnOk result (lines_after left.new ≡ lines_after left.old) }
+{
+    let field = left.only_field()?;
+    page_count(field)
 }
 
 /// The command of the fields at the front, whatever follows them.

@@ -1,6 +1,6 @@
 //! The turns of a schedule.
 
-ghost use Rattle.std.specs.Prelude.{◌≡◌, ◌≤◌, ◌++◌, OnOk, OnErr, IfOk, IfErr, length, replicate, ℕ, List, Ok, Err};
+ghost use Rattle.std.specs.Prelude.{◌≡◌, ◌≤◌, ◌+◌, ◌++◌, OnOk, OnErr, IfOk, IfErr, length, replicate, ℕ, List, Ok, Err};
 ghost use Rattle.heap_terms.specs.Grammar.{turns_of_all};
 ghost use Rattle.script_text.specs.Answers.{turns_behind, AddsTurns};
 ghost use Rattle.script_text.specs.Left.{fields_left, lines_after};
@@ -16,7 +16,8 @@ const MOST_TURNS: usize = 1_000_000;
 
 /// Adds turns of one thread at the end.
 fn push_turns(schedule: &mut Vec<u32>, turns: Turns) -> Result<(), AllocFailed<u32>>
-    ensures { OnOk result (schedule.new.items ≡ schedule.old.items ++ replicate turns.count turns.thread) }
+    ensures ok { OnOk result (schedule.new.items ≡ schedule.old.items ++ replicate turns.count turns.thread) }
+    ensures most { length schedule.new.items ≤ length schedule.old.items + turns.count }
 {
     for _ in 0..turns.count {
         schedule.push(turns.thread)?;
@@ -43,6 +44,7 @@ pub(crate) fn add_turns(
 ) -> Result<(), LineFault>
     requires { length schedule.old.items ≤ 1000000 }
     ensures turns { AddsTurns result schedule.new.items (turns_behind schedule.old.items threads (fields_left left.old)) }
+    ensures most { length schedule.new.items ≤ 1000000 }
     ensures lines { OnOk result (lines_after left.new ≡ lines_after left.old) }
 {
     while let Some(field) = left.next_field() {

@@ -11,8 +11,8 @@ onto_last-set (t ∷ []) (suc n) cs c e here = absurd (omega arith)
 onto_last-set (t ∷ u ∷ ts) zero cs c e here = absurd (omega arith)
 onto_last-set (t ∷ u ∷ ts) (suc n) cs c e here = ap (λ (x : List (List Command)). t ∷ x) (onto_last-set (u ∷ ts) n cs c (omega arith) here)
 
-pub returns : goal.returns
-returns c =
+pub returns-clause-ok : goal.returns-clause-ok
+returns-clause-ok c =
     let ts = c.args.threads.now.items in
     let n : c.len-last.result - 1 + 1 ≡ length ts = omega arith in
     on_ok_weaker c.push.result (λ e. rw e (onto_last-set ts (c.len-last.result - 1) c.index_mut.result.now c.args.command n c.index_mut.ensures.value)) c.push.ensures.ok
