@@ -6,3 +6,4 @@ pub mod Turning
 pub mod Statements
 pub mod Sums
 pub mod Scheduled
+pub mod Script

@@ -81,6 +81,10 @@ onto_some : (b : ℕ) (ls : List (List ℕ)) → (line : List ℕ) × (more : Li
 onto_some b [] = (b ∷ [], [], refl)
 onto_some b (l ∷ ls) = (b ∷ l, ls, refl)
 
+length-onto : (b : ℕ) (ls : List (List ℕ)) → length (onto_first b ls) ≤ length ls + 1
+length-onto b [] = omega arith
+length-onto b (l ∷ ls) = omega arith
+
 -- a byte that does not end a line
 first-byte : (b : ℕ) (bytes : List ℕ) → eqb b 10 ≡ false → (eqb b 13 && starts_with_lf bytes) ≡ false → first_or_empty (lines (b ∷ bytes)) ≡ b ∷ first_or_empty (lines bytes)
 first-byte b bytes no_lf no_cr_lf = ap first_or_empty (lines-byte b bytes no_lf no_cr_lf) ∙ first-onto b (lines bytes)
@@ -341,3 +345,20 @@ unfolding lines_after
 line_past bytes n le so_far =
     let none : drop n bytes ≡ [] = drop_of_length-le bytes le in
     ap lines none ∙ sym (so_far ∙ ap lines_after none)
+
+-- ---- line by line
+
+pub length-lines : (bytes : List ℕ) → length (lines bytes) ≤ length bytes
+length-lines [] = omega arith
+length-lines (b ∷ bytes) = elim (cases_Bool (eqb b 10)) [
+    | inl at_lf ↦ let e : lines (b ∷ bytes) ≡ [] ∷ lines bytes = rw (eqb-true b 10 at_lf) (lines-lf bytes) in omega (arith, ap length e, length-lines bytes)
+    | inr other ↦ elim (cases_Bool (eqb b 13 && starts_with_lf bytes)) [
+      | inl return ↦
+        let both = and_parts (eqb b 13) (starts_with_lf bytes) return in
+        let rest = lf_starts bytes both.1 in
+        let e : lines (b ∷ bytes) ≡ [] ∷ lines rest.0 = lines-return b bytes rest.0 (eqb-true b 13 both.0) rest.1 in
+        let f : lines bytes ≡ [] ∷ lines rest.0 = ap lines rest.1 ∙ lines-lf rest.0 in
+        omega (arith, ap length e, ap length f, length-lines bytes)
+      | inr inside ↦ omega (arith, ap length (lines-byte b bytes other inside), length-onto b (lines bytes), length-lines bytes)
+    ]
+  ]

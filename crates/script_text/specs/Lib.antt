@@ -5,3 +5,4 @@ pub mod Left
 pub mod Commands
 pub mod Answers
 pub mod Reader
+pub mod Numbers

@@ -1,6 +1,7 @@
 //! Why a script could not be read.
 
 ghost use Rattle.std.specs.Prelude.{◌≡◌};
+ghost use Rattle.script_text.specs.Numbers.{fault_of_line};
 ghost use Rattle.script_text.specs.declared.faults.LineFault.TheVariants as lines;
 ghost use Rattle.script_text.specs.declared.faults.ScriptFault.TheVariants.{Memory};
 
@@ -49,6 +50,19 @@ pub(crate) enum LineFault {
     Over(LimitKind),
     /// Want of memory.
     Memory,
+}
+
+impl LineFault {
+    /// The fault of a script in which the line has this number.
+    pub(crate) fn at(self, number: u32) -> ScriptFault
+        ensures { result ≡ fault_of_line self number }
+    {
+        match self {
+            LineFault::Bad(why) => ScriptFault::Line(number, why),
+            LineFault::Over(kind) => ScriptFault::Limit(number, kind),
+            LineFault::Memory => ScriptFault::Memory,
+        }
+    }
 }
 
 impl From<Why> for LineFault {

@@ -15,7 +15,9 @@ ghost use Rattle.heap_terms.specs.Valid.{IsValid};
 ghost use Rattle.script_text.specs.Gives.{Gives};
 
 pub use faults::ScriptFault;
-use heap_terms::Program;
+use crate::cursor::Cursor;
+use crate::reader::Reader;
+use heap_terms::{Program, Why};
 use std::alloc::Global;
 
 /// The program that a script says, or why it is refused: the first line that is bad decides, and on
@@ -27,5 +29,18 @@ pub fn parse(alloc: Global, bytes: &[u8]) -> Result<Program, ScriptFault>
     // A program that is read can be run.
     ensures valid { IfOk result IsValid }
 {
-    Err(ScriptFault::Memory)
+    let mut reader = Reader::new(alloc);
+    let mut left = Cursor::new(bytes);
+    let mut number: u32 = 1;
+    while !left.is_done() {
+        if let Err(fault) = reader.line(alloc, &mut left) {
+            return Err(fault.at(number));
+        }
+        left.next_line();
+        number += 1;
+    }
+    match reader.finish() {
+        Some(program) => Ok(program),
+        None => Err(ScriptFault::Line(number, Why::Missing)),
+    }
 }
