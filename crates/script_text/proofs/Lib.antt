@@ -7,3 +7,5 @@ pub mod Statements
 pub mod Sums
 pub mod Scheduled
 pub mod Script
+pub mod Fitting
+pub mod Validity

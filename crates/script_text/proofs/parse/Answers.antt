@@ -4,6 +4,7 @@ use Rattle.std.proofs.lemmas.Bool.{false≢true}
 use Rattle.heap_terms.specs.Reading.{nothing_read, read_lines, read_script}
 use Rattle.script_text.specs.Left.{lines_after}
 use Rattle.script_text.proofs.Lines.{length-lines}
+use Rattle.script_text.proofs.Validity.{read_valid}
 use Rattle.script_text.proofs.Script.{read_next, read_refused, read_all, refusal, lines_fewer}
 use Rattle.script_text.proofs.parse.Goals as goal
 
@@ -34,7 +35,8 @@ returns-in-Some-clause-exact c =
     sym c.loop-left.invariant.reads ∙ read_all c.loop-left.reader c.loop-left.number c.loop-left.left (c.loop-left-test.ensures.0 refl) ∙ c.in-Some.ensures c.loop-left.number
 
 pub returns-in-Some-clause-valid : goal.returns-in-Some-clause-valid
-returns-in-Some-clause-valid c = ?
+returns-in-Some-clause-valid c =
+    read_valid c.args.bytes.now c.in-Some.program (sym c.loop-left.invariant.reads ∙ read_all c.loop-left.reader c.loop-left.number c.loop-left.left (c.loop-left-test.ensures.0 refl) ∙ c.in-Some.ensures c.loop-left.number)
 
 pub returns-in-None-clause-exact : goal.returns-in-None-clause-exact
 returns-in-None-clause-exact c =
