@@ -17,9 +17,9 @@ digit_yes b low high = lt-ltb (digit_value b) 10 (let e : digit_value b + 48 ≡
 
 pub digit_no : (b : ℕ) → ((b < 48) ⊎ (57 < b)) → decimal_digit b ≡ false
 digit_no b out = elim (cases_Bool (decimal_digit b)) [
-    | inl small ↦ let r = digit_from_value b (ltb-true (digit_value b) 10 small) in elim out [ inl low ↦ absurd (omega (arith, r.0, r.1)) | inr high ↦ absurd (omega (arith, r.0, r.1)) ]
-    | inr other ↦ other
-  ]
+  | inl small ↦ let r = digit_from_value b (ltb-true (digit_value b) 10 small) in elim out [ inl low ↦ absurd (omega (arith, r.0, r.1)) | inr high ↦ absurd (omega (arith, r.0, r.1)) ]
+  | inr other ↦ other
+]
 
 -- one more digit
 pub adds_digit : (digits : List ℕ) (i v most : ℕ) → i < length digits → 48 ≤ get_or digits i 0 → get_or digits i 0 ≤ 57

@@ -41,10 +41,10 @@ number_below limit digits n e = at (number_of digits) e
     at : (o : Option ℕ) → option_and_then (λ k. cond (ltb k limit && (eqb (length digits) 1 || not (eqb (get_or digits 0 0) 48))) (Some k) None) o ≡ Some n → n < limit
     at None h = absurd cc
     at (Some k) h =
-      let t = kept (ltb k limit && (eqb (length digits) 1 || not (eqb (get_or digits 0 0) 48))) k n h in
-      let both = and_parts (ltb k limit) (eqb (length digits) 1 || not (eqb (get_or digits 0 0) 48)) t.0 in
-      let below : k < limit = ltb-true k limit both.0 in
-      omega (arith, t.1)
+        let t = kept (ltb k limit && (eqb (length digits) 1 || not (eqb (get_or digits 0 0) 48))) k n h in
+        let both = and_parts (ltb k limit) (eqb (length digits) 1 || not (eqb (get_or digits 0 0) 48)) t.0 in
+        let below : k < limit = ltb-true k limit both.0 in
+        omega (arith, t.1)
 
 made : (kind : ℕ → Cell) (o : Option ℕ) (c : Cell) → ((n : ℕ) → o ≡ Some n → IsCell (kind n)) → option_map kind o ≡ Some c → IsCell c
 made kind None c h e = absurd cc
@@ -63,8 +63,8 @@ cell_is [] c e = absurd cc
 cell_is (b ∷ digits) c e =
     let n = cell_number 16 digits in
     chosen (eqb b 115) (option_map Stack n) _ IsCell (λ d h. made Stack n d (λ k g. number_below 16 digits k g) h)
-      (λ d h. chosen (eqb b 98) (option_map Exact n) _ IsCell (λ d h. made Exact n d (λ k g. number_below 16 digits k g) h)
-        (λ d h. chosen (eqb b 103) (option_map Shared n) None IsCell (λ d h. made Shared n d (λ k g. number_below 16 digits k g) h) no_cell d h) d h) c e
+    (λ d h. chosen (eqb b 98) (option_map Exact n) _ IsCell (λ d h. made Exact n d (λ k g. number_below 16 digits k g) h)
+    (λ d h. chosen (eqb b 103) (option_map Shared n) None IsCell (λ d h. made Shared n d (λ k g. number_below 16 digits k g) h) no_cell d h) d h) c e
 
 -- ---- values
 
@@ -146,4 +146,4 @@ turns_below threads (f ∷ fs) ts e =
     let b = bind_ok (turns_of threads f) (λ xs. turns_of_all threads fs >>= λ more. Ok (xs ++ more)) ts e in
     let d = bind_ok (turns_of_all threads fs) (λ more. Ok (b.0 ++ more)) ts b.2 in
     subst (All (λ t. t < threads)) (is_ok (b.0 ++ d.0) ts d.2)
-      (All-append (λ t. t < threads) b.0 d.0 (parts_below threads (slice_split (λ c. eqb c 42) f) b.0 b.1) (turns_below threads fs d.0 d.1))
+    (All-append (λ t. t < threads) b.0 d.0 (parts_below threads (slice_split (λ c. eqb c 42) f) b.0 b.1) (turns_below threads fs d.0 d.1))

@@ -14,9 +14,9 @@ is_lf b = eqb b 10
 some_part : (p : ℕ → Bool) (xs : List ℕ) → (y : List ℕ) × (ys : List (List ℕ)) × (slice_split p xs ≡ y ∷ ys)
 some_part p [] = ([], [], refl)
 some_part p (x ∷ xs) = elim (cases_Bool (p x)) [
-    | inl at_x ↦ ([], slice_split p xs, rw at_x refl)
-    | inr other ↦ let more = some_part p xs in (x ∷ more.0, more.1, rw (other, more.2) refl)
-  ]
+  | inl at_x ↦ ([], slice_split p xs, rw at_x refl)
+  | inr other ↦ let more = some_part p xs in (x ∷ more.0, more.1, rw (other, more.2) refl)
+]
 
 -- an empty line
 pub lines-lf : (bytes : List ℕ) → lines (10 ∷ bytes) ≡ [] ∷ lines bytes
@@ -54,17 +54,17 @@ all-parts b x (y ∷ more) other = join-parts b x y more other
 -- where the first part is empty and the bytes are not, they begin with an LF
 first-empty : (b : ℕ) (bytes : List ℕ) (y : List (List ℕ)) → slice_split is_lf (b ∷ bytes) ≡ [] ∷ y → eqb b 10 ≡ true
 first-empty b bytes y e = elim (cases_Bool (is_lf b)) [
-    | inl at_lf ↦ at_lf
-    | inr other ↦ let more = some_part is_lf bytes in let f = rw (other, more.2) at e in absurd cc
-  ]
+  | inl at_lf ↦ at_lf
+  | inr other ↦ let more = some_part is_lf bytes in let f = rw (other, more.2) at e in absurd cc
+]
 
 pub lines-byte : (b : ℕ) (bytes : List ℕ) → eqb b 10 ≡ false → (eqb b 13 && starts_with_lf bytes) ≡ false → lines (b ∷ bytes) ≡ onto_first b (lines bytes)
 lines-byte b [] no_lf no_cr_lf = rw no_lf refl
 lines-byte b (c ∷ bytes) no_lf no_cr_lf =
     let more = some_part is_lf (c ∷ bytes) in
     let no_return : more.0 ≡ [] → eqb b 13 ≡ false = λ empty.
-      let at_lf : eqb c 10 ≡ true = first-empty c bytes more.1 (more.2 ∙ ap (λ (y : List ℕ). y ∷ more.1) empty) in
-      elim (and_cases (eqb b 13) (eqb c 10) no_cr_lf) [ inl other ↦ other | inr not_lf ↦ absurd (false≢true (sym not_lf ∙ at_lf)) ] in
+    let at_lf : eqb c 10 ≡ true = first-empty c bytes more.1 (more.2 ∙ ap (λ (y : List ℕ). y ∷ more.1) empty) in
+    elim (and_cases (eqb b 13) (eqb c 10) no_cr_lf) [ inl other ↦ other | inr not_lf ↦ absurd (false≢true (sym not_lf ∙ at_lf)) ] in
     let whole : slice_split is_lf (b ∷ c ∷ bytes) ≡ onto_first b (slice_split is_lf (c ∷ bytes)) = rw no_lf refl in
     let parts : onto_first b (slice_split is_lf (c ∷ bytes)) ≡ (b ∷ more.0) ∷ more.1 = ap (λ (ps : List (List ℕ)). onto_first b ps) more.2 in
     ap lines_of_parts (whole ∙ parts) ∙ all-parts b more.0 more.1 no_return ∙ ap (λ (ps : List (List ℕ)). onto_first b (lines_of_parts ps)) (sym more.2)
@@ -98,9 +98,9 @@ blank-is b h = elim (or_cases (eqb b 32) (eqb b 9) h) [ inl space ↦ inl (eqb-t
 
 first-blank : (b : ℕ) (bytes : List ℕ) → is_blank b ≡ true → first_or_empty (lines (b ∷ bytes)) ≡ b ∷ first_or_empty (lines bytes)
 first-blank b bytes h = elim (blank-is b h) [
-    | inl space ↦ rw space (first-byte 32 bytes refl refl)
-    | inr tab ↦ rw tab (first-byte 9 bytes refl refl)
-  ]
+  | inl space ↦ rw space (first-byte 32 bytes refl refl)
+  | inr tab ↦ rw tab (first-byte 9 bytes refl refl)
+]
 
 -- a blank is no part of a field
 pub SameLeft-blank : (b : ℕ) (bytes : List ℕ) → is_blank b ≡ true → SameLeft (b ∷ bytes) bytes
@@ -110,7 +110,7 @@ SameLeft-blank b bytes h = record {
   lines = elim (blank-is b h) [
     | inl space ↦ rw space (sym (rest-byte 32 bytes refl refl))
     | inr tab ↦ rw tab (sym (rest-byte 9 bytes refl refl))
-  ]
+  ];
 }
 
 pub SameLeft-then : (a b c : List ℕ) → SameLeft a b → SameLeft b c → SameLeft a c
@@ -136,9 +136,9 @@ starts_apart (b ∷ bytes) h =
         | inr at_lf ↦ rw (eqb-true b 10 at_lf, lines-lf bytes) Empty
       ]
       | inr return ↦
-        let both = and_parts (eqb b 13) (starts_with_lf bytes) return in
-        let rest = lf_starts bytes both.1 in
-        rw (eqb-true b 13 both.0, rest.1, lines-cr_lf rest.0) Empty
+          let both = and_parts (eqb b 13) (starts_with_lf bytes) return in
+          let rest = lf_starts bytes both.1 in
+          rw (eqb-true b 13 both.0, rest.1, lines-cr_lf rest.0) Empty
     ]
 
 -- no field is left where the first line is empty
@@ -184,9 +184,9 @@ field_len-cons b bytes h = rw h refl
 pub field_len-le : (bytes : List ℕ) → field_len bytes ≤ length bytes
 field_len-le [] = omega (arith, field_len-none [] refl)
 field_len-le (b ∷ bytes) = elim (cases_Bool (ends_field (b ∷ bytes))) [
-    | inl at_end ↦ omega (arith, field_len-none (b ∷ bytes) at_end)
-    | inr inside ↦ omega (arith, field_len-cons b bytes inside, field_len-le bytes)
-  ]
+  | inl at_end ↦ omega (arith, field_len-none (b ∷ bytes) at_end)
+  | inr inside ↦ omega (arith, field_len-cons b bytes inside, field_len-le bytes)
+]
 
 -- the first line is what stands before, and the first line of the rest; the other lines are those of the rest
 record Parts (bytes : List ℕ) : Type 0 where
@@ -207,15 +207,15 @@ parts_inside b bytes h p =
       first = rw one (first-byte b bytes y.1 x.1 ∙ ap (λ (line : List ℕ). b ∷ line) p.first);
       others = rw one (rest-byte b bytes y.1 x.1 ∙ p.others);
       solid = rw (one, y.0) p.solid;
-      apart = rw one p.apart
+      apart = rw one p.apart;
     }
 
 parts : (bytes : List ℕ) → Parts bytes
 parts [] = parts_at_end [] refl
 parts (b ∷ bytes) = elim (cases_Bool (ends_field (b ∷ bytes))) [
-    | inl at_end ↦ parts_at_end (b ∷ bytes) at_end
-    | inr inside ↦ parts_inside b bytes inside (parts bytes)
-  ]
+  | inl at_end ↦ parts_at_end (b ∷ bytes) at_end
+  | inr inside ↦ parts_inside b bytes inside (parts bytes)
+]
 
 -- no field begins where one ends and no blank stands
 no_line : (bytes : List ℕ) → ends_field bytes ≡ true → starts_with_blank bytes ≡ false → first_or_empty (lines bytes) ≡ []
@@ -227,9 +227,9 @@ no_line (b ∷ bytes) h solid =
         | inr at_lf ↦ rw (eqb-true b 10 at_lf, lines-lf bytes) refl
       ]
       | inr return ↦
-        let both = and_parts (eqb b 13) (starts_with_lf bytes) return in
-        let rest = lf_starts bytes both.1 in
-        rw (eqb-true b 13 both.0, rest.1, lines-cr_lf rest.0) refl
+          let both = and_parts (eqb b 13) (starts_with_lf bytes) return in
+          let rest = lf_starts bytes both.1 in
+          rw (eqb-true b 13 both.0, rest.1, lines-cr_lf rest.0) refl
     ]
 
 pub nothing_left : (bytes : List ℕ) → field_len bytes ≡ 0 → starts_with_blank bytes ≡ false → fields_left bytes ≡ []
@@ -249,7 +249,7 @@ Taken-field (b ∷ bytes) n e =
     let others : lines_after (b ∷ bytes) ≡ lines_after (drop n bytes) = rw e at p.others in
     record {
       fields = ap fields_of first ∙ fields-front b (take n bytes) (first_or_empty (lines (drop n bytes))) solid (starts_apart (drop n bytes) apart);
-      lines = sym others
+      lines = sym others;
     }
 
 -- ---- loops over bytes
@@ -303,15 +303,15 @@ lines-return b bytes rest at_return at_lf = rw (at_return, at_lf) (lines-cr_lf r
 
 lines-head : (b : ℕ) (bytes : List ℕ) → (line : List ℕ) × (more : List (List ℕ)) × (lines (b ∷ bytes) ≡ line ∷ more)
 lines-head b bytes = elim (cases_Bool (eqb b 10)) [
-    | inl at_lf ↦ ([], lines bytes, rw (eqb-true b 10 at_lf) (lines-lf bytes))
-    | inr other ↦ elim (cases_Bool (eqb b 13 && starts_with_lf bytes)) [
-      | inl return ↦
+  | inl at_lf ↦ ([], lines bytes, rw (eqb-true b 10 at_lf) (lines-lf bytes))
+  | inr other ↦ elim (cases_Bool (eqb b 13 && starts_with_lf bytes)) [
+    | inl return ↦
         let both = and_parts (eqb b 13) (starts_with_lf bytes) return in
         let rest = lf_starts bytes both.1 in
         ([], lines rest.0, lines-return b bytes rest.0 (eqb-true b 13 both.0) rest.1)
-      | inr inside ↦ let o = onto_some b (lines bytes) in (o.0, o.1, lines-byte b bytes other inside ∙ o.2)
-    ]
+    | inr inside ↦ let o = onto_some b (lines bytes) in (o.0, o.1, lines-byte b bytes other inside ∙ o.2)
   ]
+]
 
 -- only where nothing is left there is no line
 pub no_lines : (bytes : List ℕ) → lines bytes ≡ [] → length bytes ≡ 0
@@ -322,12 +322,12 @@ no_lines (b ∷ bytes) e = let h = lines-head b bytes in let f = sym e ∙ h.2 i
 after-byte : (b : ℕ) (bytes : List ℕ) → eqb b 10 ≡ false → lines_after (b ∷ bytes) ≡ lines_after bytes
 unfolding lines_after
 after-byte b bytes other = elim (cases_Bool (eqb b 13 && starts_with_lf bytes)) [
-    | inl return ↦
+  | inl return ↦
       let both = and_parts (eqb b 13) (starts_with_lf bytes) return in
       let rest = lf_starts bytes both.1 in
       rw (eqb-true b 13 both.0, rest.1, lines-cr_lf rest.0, lines-lf rest.0) refl
-    | inr inside ↦ rest-byte b bytes other inside
-  ]
+  | inr inside ↦ rest-byte b bytes other inside
+]
 
 pub line_more : (bytes : List ℕ) (n : ℕ) → n < length bytes → (get_or bytes n 0 ≡ 10 → ⊥) → lines_after bytes ≡ lines_after (drop n bytes) → lines_after bytes ≡ lines_after (drop (n + 1) bytes)
 line_more bytes n lt other so_far =
@@ -351,14 +351,14 @@ line_past bytes n le so_far =
 pub length-lines : (bytes : List ℕ) → length (lines bytes) ≤ length bytes
 length-lines [] = omega arith
 length-lines (b ∷ bytes) = elim (cases_Bool (eqb b 10)) [
-    | inl at_lf ↦ let e : lines (b ∷ bytes) ≡ [] ∷ lines bytes = rw (eqb-true b 10 at_lf) (lines-lf bytes) in omega (arith, ap length e, length-lines bytes)
-    | inr other ↦ elim (cases_Bool (eqb b 13 && starts_with_lf bytes)) [
-      | inl return ↦
+  | inl at_lf ↦ let e : lines (b ∷ bytes) ≡ [] ∷ lines bytes = rw (eqb-true b 10 at_lf) (lines-lf bytes) in omega (arith, ap length e, length-lines bytes)
+  | inr other ↦ elim (cases_Bool (eqb b 13 && starts_with_lf bytes)) [
+    | inl return ↦
         let both = and_parts (eqb b 13) (starts_with_lf bytes) return in
         let rest = lf_starts bytes both.1 in
         let e : lines (b ∷ bytes) ≡ [] ∷ lines rest.0 = lines-return b bytes rest.0 (eqb-true b 13 both.0) rest.1 in
         let f : lines bytes ≡ [] ∷ lines rest.0 = ap lines rest.1 ∙ lines-lf rest.0 in
         omega (arith, ap length e, ap length f, length-lines bytes)
-      | inr inside ↦ omega (arith, ap length (lines-byte b bytes other inside), length-onto b (lines bytes), length-lines bytes)
-    ]
+    | inr inside ↦ omega (arith, ap length (lines-byte b bytes other inside), length-onto b (lines bytes), length-lines bytes)
   ]
+]

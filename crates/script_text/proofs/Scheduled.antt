@@ -35,7 +35,7 @@ schedule_good s threads [] all some e most = absurd (some refl)
 schedule_good s threads (f ∷ fs) all some e most =
     let good = behind_gives s.program.schedule all (turns_of_all threads (f ∷ fs)) e in
     let within : ltb 1000000 (length s.program.schedule + length good.0) ≡ false =
-      le-ltb _ _ (omega (arith, ap length good.2, length-append s.program.schedule good.0)) in
+    le-ltb _ _ (omega (arith, ap length good.2, length-append s.program.schedule good.0)) in
     ap (λ (r : Result (List ℕ) Why). within_limits s (r >>= λ ts. Ok (Turns ts))) good.1 ∙ rw within (ap (λ (ts : List ℕ). Ok (record { place = InSchedule; program = record s.program { schedule = ts } })) (sym good.2))
 
 pub schedule_over : (s : SoFar) (threads : ℕ) (fs : List (List ℕ)) (all : List ℕ) → (length fs ≡ 0 → ⊥) → turns_behind s.program.schedule threads fs ≡ Ok all → 1000000 < length all
@@ -44,7 +44,7 @@ schedule_over s threads [] all some e over = absurd (some refl)
 schedule_over s threads (f ∷ fs) all some e over =
     let good = behind_gives s.program.schedule all (turns_of_all threads (f ∷ fs)) e in
     let past : ltb 1000000 (length s.program.schedule + length good.0) ≡ true =
-      lt-ltb _ _ (omega (arith, ap length good.2, length-append s.program.schedule good.0)) in
+    lt-ltb _ _ (omega (arith, ap length good.2, length-append s.program.schedule good.0)) in
     ap (λ (r : Result (List ℕ) Why). within_limits s (r >>= λ ts. Ok (Turns ts))) good.1 ∙ rw past refl
 
 pub ruleset scheduled = (schedule_empty, schedule_bad, schedule_good, schedule_over)

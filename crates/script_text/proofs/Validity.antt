@@ -178,17 +178,43 @@ at_word place threads word known says e = subst (Says place threads) (sym ((byte
 
 pub says : (place : Place) (threads : ℕ) (word : List ℕ) → is_built word ≡ true → Says place threads word
 says place threads word h =
-    elim (or_cases (bytes_eq word (codes "lispheap")) _ h) [ inl e ↦ at_word place threads word _ (says_lispheap place threads) e | inr h ↦
-    elim (or_cases (bytes_eq word (codes "heap")) _ h) [ inl e ↦ at_word place threads word _ (says_heap place threads) e | inr h ↦
-    elim (or_cases (bytes_eq word (codes "thread")) _ h) [ inl e ↦ at_word place threads word _ (says_thread place threads) e | inr h ↦
-    elim (or_cases (bytes_eq word (codes "fix")) _ h) [ inl e ↦ at_word place threads word _ (says_fix place threads) e | inr h ↦
-    elim (or_cases (bytes_eq word (codes "cons")) _ h) [ inl e ↦ at_word place threads word _ (says_cons place threads) e | inr h ↦
-    elim (or_cases (bytes_eq word (codes "get")) _ h) [ inl e ↦ at_word place threads word _ (says_get place threads) e | inr h ↦
-    elim (or_cases (bytes_eq word (codes "put")) _ h) [ inl e ↦ at_word place threads word _ (says_put place threads) e | inr h ↦
-    elim (or_cases (bytes_eq word (codes "show")) _ h) [ inl e ↦ at_word place threads word _ (says_show place threads) e | inr h ↦
-    elim (or_cases (bytes_eq word (codes "schedule")) _ h) [ inl e ↦ at_word place threads word _ (says_schedule place threads) e | inr h ↦
-    elim (or_cases (bytes_eq word (codes "end")) false h) [ inl e ↦ at_word place threads word _ (says_end place threads) e | inr h ↦ absurd (false≢true h) ]
-    ] ] ] ] ] ] ] ] ]
+    elim (or_cases (bytes_eq word (codes "lispheap")) _ h) [
+      | inl e ↦ at_word place threads word _ (says_lispheap place threads) e
+      | inr h ↦
+          elim (or_cases (bytes_eq word (codes "heap")) _ h) [
+            | inl e ↦ at_word place threads word _ (says_heap place threads) e
+            | inr h ↦
+                elim (or_cases (bytes_eq word (codes "thread")) _ h) [
+                  | inl e ↦ at_word place threads word _ (says_thread place threads) e
+                  | inr h ↦
+                      elim (or_cases (bytes_eq word (codes "fix")) _ h) [
+                        | inl e ↦ at_word place threads word _ (says_fix place threads) e
+                        | inr h ↦
+                            elim (or_cases (bytes_eq word (codes "cons")) _ h) [
+                              | inl e ↦ at_word place threads word _ (says_cons place threads) e
+                              | inr h ↦
+                                  elim (or_cases (bytes_eq word (codes "get")) _ h) [
+                                    | inl e ↦ at_word place threads word _ (says_get place threads) e
+                                    | inr h ↦
+                                        elim (or_cases (bytes_eq word (codes "put")) _ h) [
+                                          | inl e ↦ at_word place threads word _ (says_put place threads) e
+                                          | inr h ↦
+                                              elim (or_cases (bytes_eq word (codes "show")) _ h) [
+                                                | inl e ↦ at_word place threads word _ (says_show place threads) e
+                                                | inr h ↦
+                                                    elim (or_cases (bytes_eq word (codes "schedule")) _ h) [
+                                                      | inl e ↦ at_word place threads word _ (says_schedule place threads) e
+                                                      | inr h ↦
+                                                          elim (or_cases (bytes_eq word (codes "end")) false h) [ inl e ↦ at_word place threads word _ (says_end place threads) e | inr h ↦ absurd (false≢true h) ]
+                                                    ]
+                                              ]
+                                        ]
+                                  ]
+                            ]
+                      ]
+                ]
+          ]
+    ]
 
 -- ---- the lines so far
 
@@ -214,8 +240,15 @@ pub record Good (place : Place) (p : Program) : Type 0 where
 pub nothing_good : Good AtStart nothing_read.program
 unfolding Placed
 nothing_good = record {
-  placed = tt; auto = refl; threads_most = omega arith; commands = All-nil _; youngest = All-nil _;
-  commands_most = omega arith; gcs_most = omega arith; schedule = All-nil _; schedule_most = omega arith
+  placed = tt;
+  auto = refl;
+  threads_most = omega arith;
+  commands = All-nil _;
+  youngest = All-nil _;
+  commands_most = omega arith;
+  gcs_most = omega arith;
+  schedule = All-nil _;
+  schedule_most = omega arith;
 }
 
 -- ---- one more line
@@ -285,7 +318,7 @@ command_good place p c sound h g none =
       commands_most = omega (arith, commands-onto_last p.threads c some, r.commands);
       gcs_most = let e = gcs-onto_last p.threads c some in let w = gcs_within (sum_by (count_by is_gc) p.threads) (is_gc c) g.gcs_most r.gcs in omega (arith, e, w);
       schedule = All-weaker (λ t. t < length p.threads) (λ t. t < length (onto_last p.threads c)) (λ t lt. omega (arith, len, lt)) p.schedule g.schedule;
-      schedule_most = g.schedule_most
+      schedule_most = g.schedule_most;
     }
 
 thread_good : (place : Place) (p : Program) → HasHeap place → Good place p → unless_above 8 (length p.threads + 1) limits.Threads ≡ None → Good InThread (with_statement p NewThread)
@@ -303,24 +336,58 @@ thread_good place p h g none =
       commands_most = omega (arith, sum_by-append (length {A = Command}) p.threads ([] ∷ []), g.commands_most);
       gcs_most = omega (arith, sum_by-append (count_by is_gc) p.threads ([] ∷ []), g.gcs_most);
       schedule = All-weaker (λ t. t < length p.threads) (λ t. t < length (p.threads ++ [] ∷ [])) (λ t lt. omega (arith, len, lt)) p.schedule g.schedule;
-      schedule_most = g.schedule_most
+      schedule_most = g.schedule_most;
     }
 
 line_good : (place : Place) (p : Program) (st : Statement) → May place (length p.threads) st → Good place p → limit_passed p st ≡ None → Good (place_after st) (with_statement p st)
 unfolding May Placed
 line_good place p Version may g none = record {
-  placed = tt; auto = g.auto; threads_most = g.threads_most; commands = g.commands; youngest = g.youngest; commands_most = g.commands_most; gcs_most = g.gcs_most; schedule = g.schedule; schedule_most = g.schedule_most }
+  placed = tt;
+  auto = g.auto;
+  threads_most = g.threads_most;
+  commands = g.commands;
+  youngest = g.youngest;
+  commands_most = g.commands_most;
+  gcs_most = g.gcs_most;
+  schedule = g.schedule;
+  schedule_most = g.schedule_most;
+}
 line_good place p (HeapOf n) may g none = record {
-  placed = (may, not_above 1024 n limits.Pages none); auto = g.auto; threads_most = g.threads_most; commands = g.commands; youngest = g.youngest; commands_most = g.commands_most; gcs_most = g.gcs_most; schedule = g.schedule; schedule_most = g.schedule_most }
+  placed = (may, not_above 1024 n limits.Pages none);
+  auto = g.auto;
+  threads_most = g.threads_most;
+  commands = g.commands;
+  youngest = g.youngest;
+  commands_most = g.commands_most;
+  gcs_most = g.gcs_most;
+  schedule = g.schedule;
+  schedule_most = g.schedule_most;
+}
 line_good place p (AutoOf n) may g none = absurd may
 line_good place p NewThread may g none = thread_good place p may g none
 line_good place p (Does c) may g none = command_good place p c may.0 may.1 g none
 line_good place p (Turns ts) may g none = record {
-  placed = placed_thread place p may.1 g.placed; auto = g.auto; threads_most = g.threads_most; commands = g.commands; youngest = g.youngest; commands_most = g.commands_most; gcs_most = g.gcs_most;
+  placed = placed_thread place p may.1 g.placed;
+  auto = g.auto;
+  threads_most = g.threads_most;
+  commands = g.commands;
+  youngest = g.youngest;
+  commands_most = g.commands_most;
+  gcs_most = g.gcs_most;
   schedule = All-append (λ t. t < length p.threads) p.schedule ts g.schedule may.0;
-  schedule_most = omega (arith, not_above 1000000 (length p.schedule + length ts) limits.Schedule none, length-append p.schedule ts) }
+  schedule_most = omega (arith, not_above 1000000 (length p.schedule + length ts) limits.Schedule none, length-append p.schedule ts);
+}
 line_good place p EndOfScript may g none = record {
-  placed = placed_thread place p may g.placed; auto = g.auto; threads_most = g.threads_most; commands = g.commands; youngest = g.youngest; commands_most = g.commands_most; gcs_most = g.gcs_most; schedule = g.schedule; schedule_most = g.schedule_most }
+  placed = placed_thread place p may g.placed;
+  auto = g.auto;
+  threads_most = g.threads_most;
+  commands = g.commands;
+  youngest = g.youngest;
+  commands_most = g.commands_most;
+  gcs_most = g.gcs_most;
+  schedule = g.schedule;
+  schedule_most = g.schedule_most;
+}
 
 -- ---- all lines
 
@@ -354,7 +421,7 @@ word_good s word fs next g e =
     let built = past_test (is_built word) (Bad Word) _ next e in
     let placed = past_test (may_follow s.place word) (Bad Order) _ next built.1 in
     limits_good s (statement_of (length s.program.threads) word fs) next
-      (λ st said. (says s.place (length s.program.threads) word built.0).may placed.0 fs st said) g placed.1
+    (λ st said. (says s.place (length s.program.threads) word built.0).may placed.0 fs st said) g placed.1
 
 judged_good : (s : SoFar) (fs : List (List ℕ)) (next : SoFar) → GoodSoFar s → judged s fs ≡ Ok next → GoodSoFar next
 unfolding judged
@@ -370,8 +437,18 @@ unfolding Placed
 finished_valid AfterEnd p q number g e =
     let same : p ≡ q = cc in
     subst IsValid same (record {
-      pages_least = g.placed.0; pages_most = g.placed.1; auto = g.auto; threads_least = g.placed.2; threads_most = g.threads_most; commands = g.commands; gcs = g.youngest;
-      commands_most = g.commands_most; gcs_most = g.gcs_most; schedule = g.schedule; schedule_most = g.schedule_most })
+      pages_least = g.placed.0;
+      pages_most = g.placed.1;
+      auto = g.auto;
+      threads_least = g.placed.2;
+      threads_most = g.threads_most;
+      commands = g.commands;
+      gcs = g.youngest;
+      commands_most = g.commands_most;
+      gcs_most = g.gcs_most;
+      schedule = g.schedule;
+      schedule_most = g.schedule_most;
+    })
 finished_valid AtStart p q number g e = absurd cc
 finished_valid AfterVersion p q number g e = absurd cc
 finished_valid AfterHeap p q number g e = absurd cc
@@ -389,7 +466,7 @@ unfolding read_lines
 lines_valid s line [] p g e = finished_valid s.place s.program p line g e
 lines_valid s line (l ∷ ls) p g e =
     one_valid (judged s (fields_of l)) line (λ next. read_lines next (line + 1) ls) p
-      (λ next h more. lines_valid next (line + 1) ls p (judged_good s (fields_of l) next g h) more) e
+    (λ next h more. lines_valid next (line + 1) ls p (judged_good s (fields_of l) next g h) more) e
 
 -- a program that is read is valid
 pub read_valid : (bytes : List ℕ) (p : Program) → read_script bytes ≡ Ok p → IsValid p

@@ -4,7 +4,6 @@ ghost use Rattle.std.specs.Prelude.{◌≡◌, ◌↔◌, ◌<◌, ◌≤◌, �
 ghost use Rattle.std.specs.Str.Lines.{lines};
 ghost use Rattle.script_text.specs.Left.{ends_field, field_len, SameLeft, starts_with_blank, Taken, NoneLeft, fields_left, lines_after};
 ghost use Rattle.heap_terms.specs.Fields.{is_blank};
-
 ghost use Rattle.heap_terms.specs.Fields.{ranged, is_fixnum, signed_of};
 ghost use Rattle.heap_terms.specs.declared.faults.Why.TheVariants.{Fields};
 ghost use Rattle.script_text.specs.Answers.{only_field};

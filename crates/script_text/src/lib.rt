@@ -1,9 +1,9 @@
 //! Scripts as text: reading one, with the exact line and the exact reason where it is refused.
 #![tactic(auto)]
 
-mod faults;
 mod commands;
 mod cursor;
+mod faults;
 mod reader;
 mod schedules;
 mod values;
@@ -14,9 +14,12 @@ ghost use Rattle.heap_terms.specs.Reading.{read_script};
 ghost use Rattle.heap_terms.specs.Valid.{IsValid};
 ghost use Rattle.script_text.specs.Gives.{Gives};
 
-pub use faults::ScriptFault;
+#[cfg(test)]
+mod tests;
+
 use crate::cursor::Cursor;
 use crate::reader::Reader;
+pub use faults::ScriptFault;
 use heap_terms::{Program, Why};
 use std::alloc::Global;
 

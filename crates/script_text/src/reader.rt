@@ -13,7 +13,7 @@ use crate::commands::{command, pages_of, version_of};
 use crate::cursor::Cursor;
 use crate::faults::LineFault;
 use crate::schedules::add_turns;
-use crate::words::{meaning_of, Keyword, Place};
+use crate::words::{Keyword, Place, meaning_of};
 use heap_terms::{Command, Commands, LimitKind, Program, Scripts, Turns, Why};
 use std::alloc::{AllocFailed, Global};
 use std::marker::Model;

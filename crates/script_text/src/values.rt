@@ -6,7 +6,6 @@ ghost use Rattle.std.specs.List.{list_all};
 ghost use Rattle.std.specs.Str.Parse.{digits_value};
 ghost use Rattle.heap_terms.specs.Fields.{turns_of, turns_of_parts, number_of, cell_number, cell_of, ranged, between, at_most, at_least, is_fixnum, signed_of};
 ghost use Rattle.heap_terms.specs.declared.faults.Why.TheVariants.{Form};
-
 ghost use Rattle.script_text.specs.Values.{pages_of, one_by_one};
 
 use heap_terms::{Cell, Why};
@@ -21,7 +20,9 @@ fn value_of_digits(digits: &[u8]) -> Option<u64>
         if byte < b'0' || byte > b'9' {
             return None;
         }
-        value = value.saturating_mul(10).saturating_add(u64::from(byte - b'0'));
+        value = value
+            .saturating_mul(10)
+            .saturating_add(u64::from(byte - b'0'));
     }
     Some(value)
 }
@@ -59,13 +60,7 @@ pub(crate) fn version(field: &[u8]) -> Result<u64, Why>
 {
     match number(field) {
         None => Err(Why::Form),
-        Some(n) => {
-            if n == 1 {
-                Ok(n)
-            } else {
-                Err(Why::Range)
-            }
-        }
+        Some(n) => { if n == 1 { Ok(n) } else { Err(Why::Range) } }
     }
 }
 
@@ -75,13 +70,7 @@ pub(crate) fn page_count(field: &[u8]) -> Result<u64, Why>
 {
     match number(field) {
         None => Err(Why::Form),
-        Some(n) => {
-            if n >= 1 {
-                Ok(n)
-            } else {
-                Err(Why::Range)
-            }
-        }
+        Some(n) => { if n >= 1 { Ok(n) } else { Err(Why::Range) } }
     }
 }
 

@@ -15,7 +15,7 @@ loop-left-init c = record { reads = rw (c.new-reader.ensures, c.new-left.ensures
 pub returns-in-Err-clause-exact : goal.returns-in-Err-clause-exact
 returns-in-Err-clause-exact c =
     rw c.at.ensures (refusal c.in-Err.fault c.loop-left.reader c.line.new.self c.loop-left.number c.loop-left.left (read_script c.args.bytes.now)
-      (λ none. false≢true (c.loop-left-test.ensures.1 none)) c.in-Err.ensures.judged c.loop-left.invariant.reads)
+    (λ none. false≢true (c.loop-left-test.ensures.1 none)) c.in-Err.ensures.judged c.loop-left.invariant.reads)
 
 pub loop-left-smaller : goal.loop-left-smaller
 loop-left-smaller c =
@@ -27,7 +27,7 @@ loop-left-preserved c =
     let rest : lines c.next_line.new.self ≡ lines_after c.loop-left.left = c.next_line.ensures ∙ c.in_default.ensures.lines in
     record {
       reads = rw rest (sym (read_next c.loop-left.reader c.line.new.self c.loop-left.number c.loop-left.left some c.in_default.ensures.judged) ∙ c.loop-left.invariant.reads);
-      numbers = omega (arith, lines_fewer c.loop-left.left some, ap length rest, c.loop-left.invariant.numbers)
+      numbers = omega (arith, lines_fewer c.loop-left.left some, ap length rest, c.loop-left.invariant.numbers);
     }
 
 pub returns-in-Some-clause-exact : goal.returns-in-Some-clause-exact

@@ -14,7 +14,7 @@ returns-then-has_fields-clause-value c threads =
 pub returns-else-has_fields-clause-value : goal.returns-else-has_fields-clause-value
 returns-else-has_fields-clause-value c threads =
     sym (command_with_more c.args.name threads (fields_left c.args.left.now) (λ none.
-      eqb-false (length (fields_left c.front.new.left)) 0 (sym c.if-has_fields.ensures) (ap length c.in-Ok.ensures.fields ∙ none)))
+    eqb-false (length (fields_left c.front.new.left)) 0 (sym c.if-has_fields.ensures) (ap length c.in-Ok.ensures.fields ∙ none)))
 
 pub returns-then-has_fields-2-clause-value : goal.returns-then-has_fields-2-clause-value
 returns-then-has_fields-2-clause-value c threads =
@@ -26,4 +26,4 @@ pub returns-else-has_fields-2-clause-value : goal.returns-else-has_fields-2-clau
 returns-else-has_fields-2-clause-value c threads =
     let same : length (fields_left c.here-start.result) ≡ length (fields_left c.args.left.now) = ap (λ (bytes : List ℕ). length (fields_left bytes)) c.here-start.ensures in
     sym (command_uncounted c.args.name threads (fields_left c.args.left.now) (λ counted.
-      eqb-false (length (fields_left c.here-start.result)) c.fields.result (sym c.if-has_fields-2.ensures) (same ∙ counted ∙ sym c.fields.ensures)))
+    eqb-false (length (fields_left c.here-start.result)) c.fields.result (sym c.if-has_fields-2.ensures) (same ∙ counted ∙ sym c.fields.ensures)))

@@ -5,7 +5,7 @@ use Rattle.script_text.proofs.cursor.len_of_field.Goals as goal
 pub loop-len-preserved : goal.loop-len-preserved
 loop-len-preserved c = record {
   within = omega arith;
-  so_far = field_more c.args.bytes.now c.loop-len.len c.loop-len-test.true (sym c.if-not-field_ends_at.ensures) c.loop-len.invariant.so_far
+  so_far = field_more c.args.bytes.now c.loop-len.len c.loop-len-test.true (sym c.if-not-field_ends_at.ensures) c.loop-len.invariant.so_far;
 }
 
 pub returns-else-not-field_ends_at : goal.returns-else-not-field_ends_at

@@ -7,7 +7,7 @@ abbrev pub invariant-loop-field : goal.invariant-loop-field
 invariant-loop-field l = record {
   within : length l.schedule.items ≤ 1000000;
   turns : turns_behind l.fn.schedule.items l.threads (fields_left l.fn.left) ≡ turns_behind l.schedule.items l.threads (fields_left l.left);
-  lines : lines_after l.left ≡ lines_after l.fn.left
+  lines : lines_after l.left ≡ lines_after l.fn.left;
 }
 
 abbrev pub decreases-loop-field : goal.decreases-loop-field

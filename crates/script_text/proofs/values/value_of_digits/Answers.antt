@@ -9,5 +9,5 @@ loop-byte-preserved c =
     let high : get_or c.args.digits.now c.loop-byte.byte-index 0 ≤ 57 = omega arith in
     record {
       digits = all_digits_more c.args.digits.now c.loop-byte.byte-index lt low high c.loop-byte.invariant.digits;
-      value = rw (c.saturating_add-value.ensures, c.saturating_mul.ensures, c.from.ensures) (adds_digit c.args.digits.now c.loop-byte.byte-index c.loop-byte.value (2 ^ 64 - 1) lt low high c.loop-byte.invariant.value)
+      value = rw (c.saturating_add-value.ensures, c.saturating_mul.ensures, c.from.ensures) (adds_digit c.args.digits.now c.loop-byte.byte-index c.loop-byte.value (2 ^ 64 - 1) lt low high c.loop-byte.invariant.value);
     }
