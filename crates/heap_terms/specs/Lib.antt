@@ -18,3 +18,6 @@ pub mod Runs
 pub mod Order
 pub mod Plain
 pub mod Laws
+pub mod Fields
+pub mod Grammar
+pub mod Reading

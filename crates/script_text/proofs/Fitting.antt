@@ -1,0 +1,149 @@
+-- The values of a line's fields have their forms and ranges.
+use Rattle.std.proofs.Common.{◌≡◌, ℕ, ℤ, pos, negsuc, ◌+◌, ◌≤◌, ◌<◌, ◌^◌, zero, suc, Bool, true, false, cond, eqb, ltb, leb, ◌&&◌, ◌||◌, not, List, [], ◌∷◌, ◌++◌, length, replicate, get_or, Option, Some, None, Result, Ok, Err, refl, sym, ap, ◌∙◌, subst, arith, inl, inr}
+use Rattle.std.specs.Prelude.{ok_or, option_map, option_and_then}
+use Rattle.std.specs.List.{slice_split, All}
+use Rattle.std.proofs.lemmas.Bool.{cases_Bool, and_parts, ltb-true, leb-true}
+use Rattle.std.proofs.lemmas.List.Elements.{All-nil, All-cons, All-replicate, All-append}
+use Rattle.heap_terms.specs.declared.cells.Cell.{Cell}
+use Rattle.heap_terms.specs.declared.cells.Cell.TheVariants.{Stack, Exact, Shared}
+use Rattle.heap_terms.specs.declared.faults.Why.{Why}
+use Rattle.heap_terms.specs.declared.faults.Why.TheVariants.{Fields, Form, Range}
+use Rattle.heap_terms.specs.Fields.{◌>>=◌, number_of, signed_of, cell_of, raw_cell_of, raw_word_of, weakness_of, cell_number, ranged, between, turns_of, turns_of_parts}
+use Rattle.heap_terms.specs.Grammar.{FieldForm, LispCell, RawCell, RawWord, WeaknessWord, Number, Signed, FieldValue, CellOf, NumberOf, SignedOf, Statement, Row, value_of, values_of, as_cell, as_number, as_signed, said_by, turns_of_all}
+use Rattle.heap_terms.specs.Valid.{IsCell}
+
+bind_ok : {A B : Type 0} (r : Result A Why) (f : A → Result B Why) (y : B) → (r >>= f) ≡ Ok y → (x : A) × (r ≡ Ok x) × (f x ≡ Ok y)
+bind_ok (Ok x) f y e = (x, refl, e)
+bind_ok (Err d) f y e = absurd cc
+
+some_from_ok : {A : Type 0} (o : Option A) (why : Why) (x : A) → ok_or o why ≡ Ok x → o ≡ Some x
+some_from_ok None why x e = absurd cc
+some_from_ok (Some y) why x e = cc
+
+tested : {A : Type 0} (b : Bool) (y x : A) (why : Why) → cond b (Ok y) (Err why) ≡ Ok x → (b ≡ true) × (y ≡ x)
+tested true y x why e = (refl, cc)
+tested false y x why e = absurd cc
+
+ranged_ok : {A : Type 0} (test : A → Bool) (o : Option A) (x : A) → ranged test o ≡ Ok x → test x ≡ true
+ranged_ok test None x e = absurd cc
+ranged_ok {A = A} test (Some y) x e = let t = tested (test y) y x Range e in subst (λ (z : A). test z ≡ true) t.1 t.0
+
+-- ---- cells
+
+kept : (b : Bool) (n m : ℕ) → cond b (Some n) None ≡ Some m → (b ≡ true) × (n ≡ m)
+kept true n m e = (refl, cc)
+kept false n m e = absurd cc
+
+number_below : (limit : ℕ) (digits : List ℕ) (n : ℕ) → cell_number limit digits ≡ Some n → n < limit
+unfolding cell_number
+number_below limit digits n e = at (number_of digits) e
+  where
+    at : (o : Option ℕ) → option_and_then (λ k. cond (ltb k limit && (eqb (length digits) 1 || not (eqb (get_or digits 0 0) 48))) (Some k) None) o ≡ Some n → n < limit
+    at None h = absurd cc
+    at (Some k) h =
+        let t = kept (ltb k limit && (eqb (length digits) 1 || not (eqb (get_or digits 0 0) 48))) k n h in
+        let both = and_parts (ltb k limit) (eqb (length digits) 1 || not (eqb (get_or digits 0 0) 48)) t.0 in
+        let below : k < limit = ltb-true k limit both.0 in
+        omega (arith, t.1)
+
+made : (kind : ℕ → Cell) (o : Option ℕ) (c : Cell) → ((n : ℕ) → o ≡ Some n → IsCell (kind n)) → option_map kind o ≡ Some c → IsCell c
+made kind None c h e = absurd cc
+made kind (Some n) c h e = let same : kind n ≡ c = cc in subst IsCell same (h n refl)
+
+chosen : {A : Type 0} (b : Bool) (x y : Option A) (P : A → Type 0) → ((c : A) → x ≡ Some c → P c) → ((c : A) → y ≡ Some c → P c) → (c : A) → cond b x y ≡ Some c → P c
+chosen true x y P hx hy c e = hx c e
+chosen false x y P hx hy c e = hy c e
+
+no_cell : (c : Cell) → None ≡ Some c → IsCell c
+no_cell c e = absurd cc
+
+cell_is : (field : List ℕ) (c : Cell) → cell_of field ≡ Some c → IsCell c
+unfolding cell_of
+cell_is [] c e = absurd cc
+cell_is (b ∷ digits) c e =
+    let n = cell_number 16 digits in
+    chosen (eqb b 115) (option_map Stack n) _ IsCell (λ d h. made Stack n d (λ k g. number_below 16 digits k g) h)
+    (λ d h. chosen (eqb b 98) (option_map Exact n) _ IsCell (λ d h. made Exact n d (λ k g. number_below 16 digits k g) h)
+    (λ d h. chosen (eqb b 103) (option_map Shared n) None IsCell (λ d h. made Shared n d (λ k g. number_below 16 digits k g) h) no_cell d h) d h) c e
+
+-- ---- values
+
+-- a value is what its form says
+abbrev pub Fits : FieldForm → FieldValue → Type 0
+Fits LispCell v = IsCell (as_cell v)
+Fits (Number test) v = test (as_number v) ≡ true
+Fits (Signed test) v = test (as_signed v) ≡ true
+Fits RawCell v = Unit {0}
+Fits RawWord v = Unit {0}
+Fits WeaknessWord v = Unit {0}
+
+abbrev pub FitAll : List FieldForm → List FieldValue → Type 0
+FitAll [] vs = Unit {0}
+FitAll (form ∷ forms) [] = ⊥
+FitAll (form ∷ forms) (v ∷ vs) = Fits form v × FitAll forms vs
+
+abbrev done : {A : Type 0} → A → Result A Why
+done x = Ok x
+
+is_ok : {A : Type 0} (x y : A) → done x ≡ done y → x ≡ y
+is_ok x y e = cc
+
+value_fits : (form : FieldForm) (field : List ℕ) (v : FieldValue) → value_of form field ≡ Ok v → Fits form v
+value_fits LispCell field v e =
+    let b = bind_ok (ok_or (cell_of field) Form) (λ c. Ok (CellOf c)) v e in
+    subst (λ (w : FieldValue). IsCell (as_cell w)) (is_ok (CellOf b.0) v b.2) (cell_is field b.0 (some_from_ok (cell_of field) Form b.0 b.1))
+value_fits (Number test) field v e =
+    let b = bind_ok (ranged test (number_of field)) (λ n. Ok (NumberOf n)) v e in
+    subst (λ (w : FieldValue). test (as_number w) ≡ true) (is_ok (NumberOf b.0) v b.2) (ranged_ok test (number_of field) b.0 b.1)
+value_fits (Signed test) field v e =
+    let b = bind_ok (ranged test (signed_of field)) (λ n. Ok (SignedOf n)) v e in
+    subst (λ (w : FieldValue). test (as_signed w) ≡ true) (is_ok (SignedOf b.0) v b.2) (ranged_ok test (signed_of field) b.0 b.1)
+value_fits RawCell field v e = tt
+value_fits RawWord field v e = tt
+value_fits WeaknessWord field v e = tt
+
+values_fit : (forms : List FieldForm) (fs : List (List ℕ)) (vs : List FieldValue) → values_of forms fs ≡ Ok vs → FitAll forms vs
+values_fit [] fs vs e = tt
+values_fit (form ∷ forms) [] vs e = absurd cc
+values_fit (form ∷ forms) (f ∷ fs) vs e =
+    let one = bind_ok (value_of form f) (λ v. values_of forms fs >>= λ more. Ok (v ∷ more)) vs e in
+    let two = bind_ok (values_of forms fs) (λ more. Ok (one.0 ∷ more)) vs one.2 in
+    subst (FitAll (form ∷ forms)) (is_ok (one.0 ∷ two.0) vs two.2) (value_fits form f one.0 one.1, values_fit forms fs two.0 two.1)
+
+-- what a row says is said of values that fit
+pub said_fits : (r : Row) (fs : List (List ℕ)) (said : Statement) → said_by r fs ≡ Ok said → (vs : List FieldValue) × FitAll r.forms vs × (said ≡ r.says vs)
+said_fits r fs said e =
+    let t = counted (eqb (length fs) (length r.forms)) (values_of r.forms fs >>= λ vs. Ok (r.says vs)) e in
+    let b = bind_ok (values_of r.forms fs) (λ vs. Ok (r.says vs)) said t in
+    (b.0, values_fit r.forms fs b.0 b.1, sym (is_ok (r.says b.0) said b.2))
+  where
+    counted : (b : Bool) (x : Result Statement Why) → cond b x (Err Fields) ≡ Ok said → x ≡ Ok said
+    counted true x h = h
+    counted false x h = absurd cc
+
+-- ---- turns
+
+All-one : {X : Type 0} (P : X → Type 0) (x : X) → P x → All P (x ∷ [])
+All-one P x h = All-cons P x [] h (All-nil P)
+
+parts_below : (threads : ℕ) (parts : List (List ℕ)) (ts : List ℕ) → turns_of_parts threads parts ≡ Ok ts → All (λ t. t < threads) ts
+parts_below threads [] ts e = absurd cc
+parts_below threads (t ∷ []) ts e =
+    let b = bind_ok (ranged (λ x. ltb x threads) (number_of t)) (λ x. Ok (x ∷ [])) ts e in
+    subst (All (λ x. x < threads)) (is_ok (b.0 ∷ []) ts b.2) (All-one (λ x. x < threads) b.0 (ltb-true b.0 threads (ranged_ok (λ x. ltb x threads) (number_of t) b.0 b.1)))
+parts_below threads (t ∷ k ∷ []) ts e =
+    let b = bind_ok (ok_or (number_of t) Form) _ ts e in
+    let d = bind_ok (ok_or (number_of k) Form) _ ts b.2 in
+    let test = tested (ltb b.0 threads && between 1 65535 d.0) (replicate d.0 b.0) ts Range d.2 in
+    let both = and_parts (ltb b.0 threads) (between 1 65535 d.0) test.0 in
+    subst (All (λ x. x < threads)) test.1 (All-replicate (λ x. x < threads) d.0 b.0 (ltb-true b.0 threads both.0))
+parts_below threads (t ∷ k ∷ more ∷ parts) ts e = absurd cc
+
+pub turns_below : (threads : ℕ) (fs : List (List ℕ)) (ts : List ℕ) → turns_of_all threads fs ≡ Ok ts → All (λ t. t < threads) ts
+unfolding turns_of
+turns_below threads [] ts e = subst (All (λ t. t < threads)) (is_ok [] ts e) (All-nil (λ t. t < threads))
+turns_below threads (f ∷ fs) ts e =
+    let b = bind_ok (turns_of threads f) (λ xs. turns_of_all threads fs >>= λ more. Ok (xs ++ more)) ts e in
+    let d = bind_ok (turns_of_all threads fs) (λ more. Ok (b.0 ++ more)) ts b.2 in
+    subst (All (λ t. t < threads)) (is_ok (b.0 ++ d.0) ts d.2)
+    (All-append (λ t. t < threads) b.0 d.0 (parts_below threads (slice_split (λ c. eqb c 42) f) b.0 b.1) (turns_below threads fs d.0 d.1))

@@ -1,0 +1,16 @@
+use Rattle.std.proofs.Common.{◌≡◌, Ok, Err, refl, sym, ◌∙◌}
+use Rattle.std.proofs.lemmas.Result.{err_from_is_err_and}
+use Rattle.script_text.specs.Left.{fields_left}
+use Rattle.script_text.proofs.Statements.{heap_good, heap_bad_result, heap_fields}
+use Rattle.script_text.proofs.commands.pages_of.Goals as goal
+
+pub returns-in_err-field-clause-bad : goal.returns-in_err-field-clause-bad
+returns-in_err-field-clause-bad c =
+    let p = err_from_is_err_and c.from_residual.result c.from_residual.ensures.1 in
+    rw (p.1, p.2) (λ threads. heap_fields threads (fields_left c.args.left.now) c.in_err-field.field-0.0 c.in_err-field.ensures.none)
+
+pub returns-clause-good : goal.returns-clause-good
+returns-clause-good c = heap_good (fields_left c.args.left.now) c.in_ok-field.field.now c.page_count.result c.in_ok-field.ensures.some c.page_count.ensures
+
+pub returns-clause-bad : goal.returns-clause-bad
+returns-clause-bad c = heap_bad_result (fields_left c.args.left.now) c.in_ok-field.field.now c.page_count.result c.in_ok-field.ensures.some c.page_count.ensures

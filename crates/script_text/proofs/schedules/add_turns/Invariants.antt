@@ -1,0 +1,14 @@
+use Rattle.std.proofs.Common.{◌≡◌, ◌≤◌, length}
+use Rattle.script_text.specs.Answers.{turns_behind}
+use Rattle.script_text.specs.Left.{fields_left, lines_after}
+use Rattle.script_text.proofs.schedules.add_turns.Given as goal
+
+abbrev pub invariant-loop-field : goal.invariant-loop-field
+invariant-loop-field l = record {
+  within : length l.schedule.items ≤ 1000000;
+  turns : turns_behind l.fn.schedule.items l.threads (fields_left l.fn.left) ≡ turns_behind l.schedule.items l.threads (fields_left l.left);
+  lines : lines_after l.left ≡ lines_after l.fn.left;
+}
+
+abbrev pub decreases-loop-field : goal.decreases-loop-field
+decreases-loop-field l = length (fields_left l.left)

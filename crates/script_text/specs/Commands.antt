@@ -1,0 +1,53 @@
+-- Reading the fields of a command one after the other, before it is known how many there are.
+use Rattle.std.specs.Prelude.{◌≡◌, ℕ, List, [], ◌∷◌, length, Result, Ok, Err, Option, Some, None, ok_or, OnOk, unwrap_or, find, bytes_eq}
+use Rattle.heap_terms.specs.declared.cells.Cell.{Cell}
+use Rattle.heap_terms.specs.declared.commands.Command.{Command}
+use Rattle.heap_terms.specs.declared.commands.Command.TheVariants as commands
+use Rattle.heap_terms.specs.declared.faults.Why.{Why}
+use Rattle.heap_terms.specs.declared.faults.Why.TheVariants.{Fields, Form}
+use Rattle.heap_terms.specs.Fields.{◌>>=◌, number_of, signed_of, cell_of, ranged, at_most, is_fixnum}
+use Rattle.heap_terms.specs.Grammar.{Statement, Does}
+use Rattle.script_text.specs.declared.words.Name.{Name}
+use Rattle.script_text.specs.declared.words.Name.TheVariants as names
+use Rattle.script_text.specs.Left.{fields_left, lines_after}
+
+-- what the first field says; a line without one has too few
+abbrev pub in_first : {A : Type 0} → (List ℕ → Result A Why) → List (List ℕ) → Result A Why
+in_first reads [] = Err Fields
+in_first reads (field ∷ fields) = reads field
+
+abbrev pub but_first : List (List ℕ) → List (List ℕ)
+but_first [] = []
+but_first (field ∷ fields) = fields
+
+-- one field was read
+pub record Moved (old new : List ℕ) : Type 0 where
+  pub fields : fields_left new ≡ but_first (fields_left old)
+  pub lines : lines_after new ≡ lines_after old
+
+abbrev pub a_cell : List ℕ → Result Cell Why
+a_cell field = ok_or (cell_of field) Form
+
+abbrev pub an_index : List ℕ → Result ℕ Why
+an_index field = ranged (at_most 65535) (number_of field)
+
+-- the command of the fields at the front, whatever follows them
+abbrev pub front_command : Name → List (List ℕ) → Result Command Why
+front_command names.Fix fs = in_first a_cell fs >>= λ d. in_first (λ f. ranged is_fixnum (signed_of f)) (but_first fs) >>= λ n. Ok (commands.Fix d n)
+front_command names.Cons fs = in_first a_cell fs >>= λ d. in_first a_cell (but_first fs) >>= λ a. in_first a_cell (but_first (but_first fs)) >>= λ b. Ok (commands.NewCons d a b)
+front_command names.Get fs = in_first a_cell fs >>= λ d. in_first a_cell (but_first fs) >>= λ c. in_first an_index (but_first (but_first fs)) >>= λ i. Ok (commands.Get d c i)
+front_command names.Put fs = in_first a_cell fs >>= λ c. in_first an_index (but_first fs) >>= λ i. in_first a_cell (but_first (but_first fs)) >>= λ a. Ok (commands.Put c i a)
+front_command names.Show fs = in_first a_cell fs >>= λ c. Ok (commands.Show c)
+
+-- how many fields a command has after its word
+abbrev pub field_count : Name → ℕ
+field_count names.Fix = 2
+field_count names.Cons = 3
+field_count names.Get = 3
+field_count names.Put = 3
+field_count names.Show = 1
+
+abbrev pub does : Result Command Why → Result Statement Why
+does found = found >>= λ c. Ok (Does c)
+
+-- what a reader of a field found, without where it lies in memory

@@ -1,0 +1,26 @@
+-- The state of the reader, as the definition of reading has it, and what its methods answer.
+use Rattle.std.specs.Prelude.{◌≡◌, ℕ, ◌+◌, ◌<◌, ◌≤◌, List, [], ◌∷◌, ◌++◌, length, Result, Ok, Err, sum_by, count_by, ◌^◌}
+use Rattle.heap_terms.specs.declared.faults.Why.{Why}
+use Rattle.heap_terms.specs.declared.faults.Why.TheVariants.{Fields}
+use Rattle.heap_terms.specs.declared.faults.LimitKind.{LimitKind}
+use Rattle.heap_terms.specs.declared.faults.LimitKind.TheVariants as limits
+use Rattle.heap_terms.specs.Fields.{◌>>=◌}
+use Rattle.heap_terms.specs.Grammar.{turns_of_all}
+use Rattle.heap_terms.specs.Reading.{SoFar, Refused, Bad, Over}
+use Rattle.heap_terms.specs.Valid.{is_gc}
+use Rattle.script_text.specs.declared.faults.LineFault.{LineFault}
+use Rattle.script_text.specs.declared.faults.LineFault.TheVariants as faults
+use Rattle.script_text.specs.declared.reader.Reader.TheInside.{Inside}
+use Rattle.script_text.specs.Words.{place_of}
+
+abbrev pub view_of : Inside → SoFar
+view_of r = record { place = place_of r.place; program = record { pages = r.pages; auto = 0; threads = r.threads.items; schedule = r.schedule.items } }
+
+-- the counts are those of the threads, and no limit is passed
+pub record Counts (r : Inside) : Type 0 where
+  pub threads : length r.threads.items ≤ 8
+  pub commands : r.commands ≡ sum_by length r.threads.items
+  pub commands_most : r.commands ≤ 20000
+  pub gcs : r.gcs ≡ sum_by (count_by is_gc) r.threads.items
+  pub gcs_most : r.gcs ≤ 64
+  pub schedule : length r.schedule.items ≤ 1000000

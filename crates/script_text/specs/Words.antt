@@ -1,0 +1,33 @@
+-- The words that the reader knows, and the places that it tells apart, as the definition of reading has them.
+use Rattle.std.specs.Prelude.{ℕ, List, codes}
+use Rattle.heap_terms.specs.Reading.{Place as DefinedPlace, AtStart, AfterVersion, AfterHeap, InThread, InSchedule, AfterEnd}
+use Rattle.script_text.specs.declared.words.Keyword.{Keyword}
+use Rattle.script_text.specs.declared.words.Keyword.TheVariants as keywords
+use Rattle.script_text.specs.declared.words.Name.{Name}
+use Rattle.script_text.specs.declared.words.Name.TheVariants as names
+use Rattle.script_text.specs.declared.words.Place.{Place}
+use Rattle.script_text.specs.declared.words.Place.TheVariants as places
+
+-- the word as it is written
+abbrev pub text_of_name : Name → List ℕ
+text_of_name names.Fix = codes "fix"
+text_of_name names.Cons = codes "cons"
+text_of_name names.Get = codes "get"
+text_of_name names.Put = codes "put"
+text_of_name names.Show = codes "show"
+
+abbrev pub text_of : Keyword → List ℕ
+text_of keywords.Lispheap = codes "lispheap"
+text_of keywords.Heap = codes "heap"
+text_of keywords.Thread = codes "thread"
+text_of keywords.Schedule = codes "schedule"
+text_of keywords.End = codes "end"
+text_of (keywords.Command name) = text_of_name name
+
+abbrev pub place_of : Place → DefinedPlace
+place_of places.Start = AtStart
+place_of places.Version = AfterVersion
+place_of places.Heap = AfterHeap
+place_of places.Thread = InThread
+place_of places.Schedule = InSchedule
+place_of places.End = AfterEnd

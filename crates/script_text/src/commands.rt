@@ -1,0 +1,109 @@
+//! What the fields of a line say, behind its word.
+
+ghost use Rattle.std.specs.Prelude.{◌≡◌, ℕ, ◌-◌, ◌^◌, [], OnOk, IfOk, IfErr, Ok, Err, drop, min, codes};
+ghost use Rattle.heap_terms.specs.Grammar.{Version, HeapOf, statement_of};
+ghost use Rattle.script_text.specs.Commands.{front_command, field_count, does};
+ghost use Rattle.script_text.specs.Left.{fields_left, lines_after};
+ghost use Rattle.script_text.specs.Words.{text_of_name};
+
+use crate::cursor::Cursor;
+use crate::values::{page_count, version};
+use crate::words::Name;
+use heap_terms::{Command, Why};
+
+impl Name {
+    /// How many fields the command has after its word.
+    fn fields(self) -> usize
+        ensures { result ≡ field_count self }
+    {
+        match self {
+            Name::Show => 1,
+            Name::Fix => 2,
+            Name::Cons | Name::Get | Name::Put => 3,
+        }
+    }
+}
+
+/// The version of a `lispheap` line, which is 1.
+pub(crate) fn version_of(left: &mut Cursor) -> Result<(), Why>
+    ensures good { IfOk result (λ _. (threads : ℕ) → statement_of threads (codes "lispheap") (fields_left left.old) ≡ Ok Version) }
+    ensures bad { IfErr result (λ why. (threads : ℕ) → statement_of threads (codes "lispheap") (fields_left left.old) ≡ Err why) }
+    ensures lines { OnOk result (lines_after left.new ≡ lines_after left.old) }
+{
+    let field = left.only_field()?;
+    version(field)?;
+    Ok(())
+}
+
+/// The pages of a `heap` line; a number above `u64::MAX` is given as `u64::MAX`.
+pub(crate) fn pages_of(left: &mut Cursor) -> Result<u64, Why>
+    ensures good { IfOk result (λ pages. (n : ℕ) × (pages ≡ min n (2 ^ 64 - 1)) × ((threads : ℕ) → statement_of threads (codes "heap") (fields_left left.old) ≡ Ok (HeapOf n))) }
+    ensures bad { IfErr result (λ why. (threads : ℕ) → statement_of threads (codes "heap") (fields_left left.old) ≡ Err why) }
+    ensures lines { OnOk result (lines_after left.new ≡ lines_after left.old) }
+{
+    let field = left.only_field()?;
+    page_count(field)
+}
+
+/// The command of the fields at the front, whatever follows them.
+fn front(name: Name, left: &mut Cursor) -> Result<Command, Why>
+    ensures value { result ≡ front_command name (fields_left left.old) }
+    ensures fields { OnOk result (fields_left left.new ≡ drop (field_count name) (fields_left left.old)) }
+    ensures lines { OnOk result (lines_after left.new ≡ lines_after left.old) }
+{
+    match name {
+        Name::Fix => {
+            let d = left.cell()?;
+            let n = left.fixnum()?;
+            Ok(Command::Fix { d, n })
+        }
+        Name::Cons => {
+            let d = left.cell()?;
+            let a = left.cell()?;
+            let b = left.cell()?;
+            Ok(Command::NewCons { d, a, b })
+        }
+        Name::Get => {
+            let d = left.cell()?;
+            let c = left.cell()?;
+            let i = left.index()?;
+            Ok(Command::Get { d, c, i })
+        }
+        Name::Put => {
+            let c = left.cell()?;
+            let i = left.index()?;
+            let a = left.cell()?;
+            Ok(Command::Put { c, i, a })
+        }
+        Name::Show => {
+            let c = left.cell()?;
+            Ok(Command::Show { c })
+        }
+    }
+}
+
+/// The command of a line whose word is read. The number of its fields is judged before their forms
+/// and ranges, so where a field is bad they are counted.
+pub(crate) fn command(name: Name, left: &mut Cursor) -> Result<Command, Why>
+    ensures value { (threads : ℕ) → does result ≡ statement_of threads (text_of_name name) (fields_left left.old) }
+    ensures fields { OnOk result (fields_left left.new ≡ []) }
+    ensures lines { OnOk result (lines_after left.new ≡ lines_after left.old) }
+{
+    let start = left.here();
+    match front(name, left) {
+        Ok(command) => {
+            if left.has_fields(0) {
+                Ok(command)
+            } else {
+                Err(Why::Fields)
+            }
+        }
+        Err(why) => {
+            if start.has_fields(name.fields()) {
+                Err(why)
+            } else {
+                Err(Why::Fields)
+            }
+        }
+    }
+}

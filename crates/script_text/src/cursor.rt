@@ -1,0 +1,207 @@
+//! The bytes of a script that are not read yet.
+
+ghost use Rattle.std.specs.Prelude.{◌≡◌, ◌↔◌, ◌<◌, ◌≤◌, ◌+◌, ◌==◌, [], ◌∷◌, IfOk, IfErr, OnOk, length, drop, false, IsTrue, MatchOption, slice_index};
+ghost use Rattle.std.specs.Str.Lines.{lines};
+ghost use Rattle.script_text.specs.Left.{ends_field, field_len, SameLeft, starts_with_blank, Taken, NoneLeft, fields_left, lines_after};
+ghost use Rattle.heap_terms.specs.Fields.{is_blank};
+ghost use Rattle.heap_terms.specs.Fields.{ranged, is_fixnum, signed_of};
+ghost use Rattle.heap_terms.specs.declared.faults.Why.TheVariants.{Fields};
+ghost use Rattle.script_text.specs.Answers.{only_field};
+ghost use Rattle.script_text.specs.Commands.{Moved, but_first, in_first, a_cell, an_index};
+
+use crate::values::{cell, fixnum, number_up_to};
+use heap_terms::{Cell, Why};
+use std::marker::Model;
+
+/// Whether a field ends at byte `at`: at a blank, at an LF or at a CR before an LF.
+fn field_ends_at(bytes: &[u8], at: usize) -> bool
+    requires { at < length bytes.now }
+    ensures { result ≡ ends_field (drop at bytes.now) }
+{
+    match bytes[at] {
+        b' ' | b'\t' | b'\n' => true,
+        b'\r' => at + 1 < bytes.len() && bytes[at + 1] == b'\n',
+        _ => false,
+    }
+}
+
+/// How many bytes stand before the place where a field ends.
+fn len_of_field(bytes: &[u8]) -> usize
+    ensures { result ≡ field_len bytes.now }
+{
+    let mut len = 0;
+    while len < bytes.len() && !field_ends_at(bytes, len) {
+        len += 1;
+    }
+    len
+}
+
+/// Whether a byte parts fields: a space or a tab.
+fn parts_fields(byte: u8) -> bool
+    ensures { result ≡ is_blank byte }
+{
+    byte == b' ' || byte == b'\t'
+}
+
+/// The bytes after the blanks at their front.
+fn without_blanks(bytes: &[u8]) -> &[u8]
+    ensures same { SameLeft bytes.now result.now }
+    ensures solid { starts_with_blank result.now ≡ false }
+{
+    let mut start = 0;
+    while start < bytes.len() && parts_fields(bytes[start]) {
+        start += 1;
+    }
+    let (_, rest) = bytes.split_at(start);
+    rest
+}
+
+/// Where the bytes are that are not read yet.
+#[derive(Drop)]
+pub(crate) struct Cursor<'a> {
+    rest: &'a [u8],
+}
+
+impl<'a> Model for Cursor<'a> {
+    ghost use Rattle.std.specs.Prelude.{ℕ, List};
+
+    ghost Value = { List ℕ };
+
+    ghost view = { λ c. c.rest.now };
+}
+
+impl<'a> Cursor<'a> {
+    /// The cursor before these bytes.
+    pub(crate) fn new(bytes: &'a [u8]) -> Self
+        ensures { result ≡ bytes.now }
+    {
+        Cursor { rest: bytes }
+    }
+
+    /// Whether nothing is left, and so no line.
+    pub(crate) fn is_done(&self) -> bool
+        ensures { IsTrue result ↔ (lines self.now ≡ []) }
+    {
+        self.rest.is_empty()
+    }
+
+    /// The next field of the line.
+    pub(crate) fn next_field(&mut self) -> Option<&'a [u8]>
+        ensures { MatchOption result (NoneLeft self.old self.new) (λ field. Taken self.old field.now self.new) }
+    {
+        let rest = without_blanks(self.rest);
+        let len = len_of_field(rest);
+        let (field, after) = rest.split_at(len);
+        self.rest = after;
+        if len == 0 {
+            return None;
+        }
+        Some(field)
+    }
+
+    /// The cursor at the same place.
+    pub(crate) fn here(&self) -> Cursor<'a>
+        ensures { result ≡ self.now }
+    {
+        Cursor { rest: self.rest }
+    }
+
+    /// The next field, where the line has one.
+    fn field(&mut self) -> Result<&'a [u8], Why>
+        ensures some { IfOk result (λ field. fields_left self.old ≡ field.now ∷ but_first (fields_left self.old)) }
+        ensures none { IfErr result (λ why. (why ≡ Fields) × (fields_left self.old ≡ [])) }
+        ensures moved { OnOk result (Moved self.old self.new) }
+    {
+        match self.next_field() {
+            Some(field) => Ok(field),
+            None => Err(Why::Fields),
+        }
+    }
+
+    /// The field of a line that has one alone.
+    pub(crate) fn only_field(&mut self) -> Result<&'a [u8], Why>
+        ensures some { IfOk result (λ field. only_field (fields_left self.old) ≡ Ok field.now) }
+        ensures none { IfErr result (λ why. only_field (fields_left self.old) ≡ Err why) }
+        ensures lines { OnOk result (lines_after self.new ≡ lines_after self.old) }
+    {
+        let field = self.field()?;
+        if self.has_fields(0) {
+            Ok(field)
+        } else {
+            Err(Why::Fields)
+        }
+    }
+
+    /// A Lisp cell.
+    pub(crate) fn cell(&mut self) -> Result<Cell, Why>
+        ensures value { result ≡ in_first a_cell (fields_left self.old) }
+        ensures moved { OnOk result (Moved self.old self.new) }
+    {
+        let field = self.field()?;
+        cell(field)
+    }
+
+    /// An index of a field or an element.
+    pub(crate) fn index(&mut self) -> Result<u32, Why>
+        ensures value { result ≡ in_first an_index (fields_left self.old) }
+        ensures moved { OnOk result (Moved self.old self.new) }
+    {
+        let field = self.field()?;
+        number_up_to(field, 65535)
+    }
+
+    /// A fixnum.
+    pub(crate) fn fixnum(&mut self) -> Result<i64, Why>
+        ensures value { result ≡ in_first (λ f. ranged is_fixnum (signed_of f)) (fields_left self.old) }
+        ensures moved { OnOk result (Moved self.old self.new) }
+    {
+        let field = self.field()?;
+        fixnum(field)
+    }
+
+    /// Goes to the line after this one.
+    pub(crate) fn next_line(&mut self)
+        ensures { lines self.new ≡ lines_after self.old }
+    {
+        self.rest = after_line(self.rest);
+    }
+
+    /// Whether so many fields are left in the line.
+    pub(crate) fn has_fields(&self, count: usize) -> bool
+        ensures { result ≡ (length (fields_left self.now) == count) }
+    {
+        let mut rest = Cursor { rest: self.rest };
+        for _ in 0..count {
+            if rest.next_field().is_none() {
+                return false;
+            }
+        }
+        rest.next_field().is_none()
+    }
+}
+
+/// Where the line ends: at an LF, or where no byte is left.
+fn end_of_line(bytes: &[u8]) -> usize
+    ensures within { result ≤ length bytes.now }
+    ensures same { lines_after bytes.now ≡ lines_after (drop result bytes.now) }
+    ensures lf { result < length bytes.now → slice_index bytes.now result ≡ 10 }
+{
+    let mut at = 0;
+    while at < bytes.len() && bytes[at] != b'\n' {
+        at += 1;
+    }
+    at
+}
+
+/// The bytes after the line.
+fn after_line(bytes: &[u8]) -> &[u8]
+    ensures { lines result.now ≡ lines_after bytes.now }
+{
+    let end = end_of_line(bytes);
+    if end < bytes.len() {
+        let (_, after) = bytes.split_at(end + 1);
+        return after;
+    }
+    let (_, after) = bytes.split_at(end);
+    after
+}

@@ -1,0 +1,222 @@
+//! What the lines so far say.
+
+ghost use Rattle.std.specs.Prelude.{◌≡◌, ◌<◌, ◌≤◌, ◌-◌, ◌^◌, ℕ, IsTrue, OnOk, OnErr, Ok, length, min, ok_or};
+ghost use Rattle.heap_terms.specs.Grammar.{Version, HeapOf, NewThread, Does, EndOfScript, schedule_of, statement_of};
+ghost use Rattle.heap_terms.specs.Reading.{within_limits, judged, nothing_read, onto_last, finished, LineFault as MadeAt};
+ghost use Rattle.heap_terms.specs.declared.faults.Why.TheVariants.{Missing};
+ghost use Rattle.heap_terms.specs.Valid.{is_gc};
+ghost use Rattle.script_text.specs.Answers.{IsJudged};
+ghost use Rattle.script_text.specs.Left.{fields_left, lines_after};
+ghost use Rattle.script_text.specs.Words.{text_of};
+
+use crate::commands::{command, pages_of, version_of};
+use crate::cursor::Cursor;
+use crate::faults::LineFault;
+use crate::schedules::add_turns;
+use crate::words::{Keyword, Place, meaning_of};
+use heap_terms::{Command, Commands, LimitKind, Program, Scripts, Turns, Why};
+use std::alloc::{AllocFailed, Global};
+use std::marker::Model;
+
+/// How many pages a heap may have.
+const MOST_PAGES: u64 = 1024;
+
+/// How many threads a script may have.
+const MOST_THREADS: usize = 8;
+
+/// How many commands all threads may have.
+const MOST_COMMANDS: u32 = 20_000;
+
+/// How many of them may be `gc`.
+const MOST_GCS: u32 = 64;
+
+/// What the lines so far say.
+#[derive(Drop)]
+pub(crate) struct Reader {
+    place: Place,
+    pages: u32,
+    threads: Vec<Commands>,
+    schedule: Vec<u32>,
+    commands: u32,
+    gcs: u32,
+}
+
+impl Model for Reader {
+    ghost use Rattle.heap_terms.specs.Reading.{SoFar};
+
+    ghost Value = { SoFar };
+
+    ghost use Rattle.script_text.specs.Reader.{view_of, Counts};
+
+    ghost view = { view_of };
+
+    ghost invariant = { Counts };
+}
+
+/// Whether a command is `gc`.
+fn is_collect(command: &Command) -> bool
+    ensures { result ≡ is_gc command.now }
+{
+    matches!(command, Command::Collect { .. })
+}
+
+/// Adds a command to the last thread.
+fn push_to_last(threads: &mut Vec<Commands>, command: Command) -> Result<(), AllocFailed<Command>>
+    requires { 0 < length threads.old.items }
+    ensures ok { OnOk result (threads.new.items ≡ onto_last threads.old.items command) }
+    ensures err { OnErr result (threads.new.items ≡ threads.old.items) }
+{
+    let last = threads.len() - 1;
+    threads[last].push(command)
+}
+
+impl Reader {
+    /// No line was read.
+    pub(crate) fn new(alloc: Global) -> Self
+        ensures { result ≡ nothing_read }
+    {
+        Reader {
+            place: Place::Start,
+            pages: 0,
+            threads: Vec::new(alloc),
+            schedule: Vec::new(alloc),
+            commands: 0,
+            gcs: 0,
+        }
+    }
+
+    /// A number of pages.
+    fn heap(&mut self, pages: u64) -> Result<(), LineFault>
+        ensures { (n : ℕ) → pages ≡ min n (2 ^ 64 - 1) → IsJudged result self.new (within_limits self.old (Ok (HeapOf n))) }
+    {
+        if pages > MOST_PAGES {
+            return Err(LineFault::Over(LimitKind::Pages));
+        }
+        self.pages = pages as u32;
+        self.place = Place::Heap;
+        Ok(())
+    }
+
+    /// A thread, with no command yet.
+    fn thread(&mut self, alloc: Global) -> Result<(), LineFault>
+        ensures { IsJudged result self.new (within_limits self.old (Ok NewThread)) }
+    {
+        if self.threads.len() >= MOST_THREADS {
+            return Err(LineFault::Over(LimitKind::Threads));
+        }
+        self.threads.push(Commands::new(alloc))?;
+        self.place = Place::Thread;
+        Ok(())
+    }
+
+    /// A command of the last thread.
+    #[tactic(auto, using(crate::proofs::Sums::counted))]
+    fn command(&mut self, command: Command) -> Result<(), LineFault>
+        ensures { IsJudged result self.new (within_limits self.old (Ok (Does command))) }
+    {
+        if self.commands >= MOST_COMMANDS {
+            return Err(LineFault::Over(LimitKind::Commands));
+        }
+        let collects = is_collect(&command);
+        if collects && self.gcs >= MOST_GCS {
+            return Err(LineFault::Over(LimitKind::Gcs));
+        }
+        if self.threads.is_empty() {
+            self.place = Place::Thread;
+            return Ok(());
+        }
+        push_to_last(&mut self.threads, command)?;
+        self.commands += 1;
+        self.gcs += u32::from(collects);
+        self.place = Place::Thread;
+        Ok(())
+    }
+
+    /// The turns of a `schedule` line.
+    #[tactic(auto, using(crate::proofs::Scheduled::scheduled))]
+    fn schedule(&mut self, left: &mut Cursor) -> Result<(), LineFault>
+        ensures judged { IsJudged result self.new (within_limits self.old (schedule_of (length self.old.program.threads) (fields_left left.old))) }
+        ensures lines { OnOk result (lines_after left.new ≡ lines_after left.old) }
+    {
+        if left.has_fields(0) {
+            return Err(LineFault::Bad(Why::Fields));
+        }
+        let threads = self.threads.len() as u32;
+        add_turns(&mut self.schedule, threads, left)?;
+        self.place = Place::Schedule;
+        Ok(())
+    }
+
+    /// A line with its word, at a place where it may stand.
+    #[tactic(auto, using(crate::proofs::Statements::words))]
+    fn word(&mut self, alloc: Global, word: Keyword, left: &mut Cursor) -> Result<(), LineFault>
+        ensures judged { IsJudged result self.new (within_limits self.old (statement_of (length self.old.program.threads) (text_of word) (fields_left left.old))) }
+        ensures lines { OnOk result (lines_after left.new ≡ lines_after left.old) }
+    {
+        match word {
+            Keyword::Command(name) => {
+                let command = command(name, left)?;
+                self.command(command)
+            }
+            Keyword::Schedule => self.schedule(left),
+            Keyword::Lispheap => {
+                version_of(left)?;
+                self.place = Place::Version;
+                Ok(())
+            }
+            Keyword::Heap => {
+                let pages = pages_of(left)?;
+                self.heap(pages)
+            }
+            Keyword::Thread => {
+                if !left.has_fields(0) {
+                    return Err(LineFault::Bad(Why::Fields));
+                }
+                self.thread(alloc)
+            }
+            Keyword::End => {
+                if !left.has_fields(0) {
+                    return Err(LineFault::Bad(Why::Fields));
+                }
+                self.place = Place::End;
+                Ok(())
+            }
+        }
+    }
+
+    /// A line, from its first field on.
+    #[tactic(auto, unfolding(heap_terms::specs::Reading::judged, heap_terms::specs::Reading::judged_word))]
+    pub(crate) fn line(&mut self, alloc: Global, left: &mut Cursor) -> Result<(), LineFault>
+        ensures judged { IsJudged result self.new (judged self.old (fields_left left.old)) }
+        ensures lines { OnOk result (lines_after left.new ≡ lines_after left.old) }
+    {
+        let Some(word) = left.next_field() else {
+            return Ok(());
+        };
+        if let [b';', ..] = word {
+            return Ok(());
+        }
+        let Some(word) = meaning_of(word) else {
+            return Err(LineFault::Bad(Why::Word));
+        };
+        if !self.place.admits(word) {
+            return Err(LineFault::Bad(Why::Order));
+        }
+        self.word(alloc, word, left)
+    }
+
+    /// The program, if `end` was read.
+    pub(crate) fn finish(self) -> Option<Program>
+        ensures { (number : ℕ) → finished self number ≡ ok_or result (MadeAt number Missing) }
+    {
+        match self.place {
+            Place::End => Some(Program {
+                pages: self.pages,
+                auto: 0,
+                threads: Scripts::from_vec(self.threads),
+                schedule: Turns::from_vec(self.schedule),
+            }),
+            _ => None,
+        }
+    }
+}
