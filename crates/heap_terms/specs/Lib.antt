@@ -9,3 +9,4 @@ pub mod Regions
 pub mod Histories
 pub mod Complete
 pub mod Text
+pub mod WordMachine
