@@ -5,3 +5,5 @@ pub mod Start
 pub mod Moves
 pub mod SeatFacts
 pub mod Replying
+pub mod Seating
+pub mod Closing

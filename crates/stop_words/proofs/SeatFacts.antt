@@ -80,67 +80,67 @@ module _ {P : Type 0} (owner : P → ℕ) where
     pub after_claim : (r : ℕ) → m.0.place ≡ Outside → n.0 ≡ view_after Claim r m.0 → n.1 ≡ m.1 → Facts owner thread_no is_out now n
     after_claim r placed view hand = ⊎_elim
         (λ (e : r ≡ 0).
-          let v = m.0 in
-          let w = counted (moved v Holding) 0 r in
-          let is : n.0 ≡ w = view ∙ ap (λ k. counted k 0 r) (if_same r 0 (moved v Holding) v e) in
-          subst (λ k. Facts owner thread_no is_out now (k, n.1)) (sym is) (record {
-            number = f.number;
-            in_range = let l = f.in_range in omega arith;
-            idle = (refl, refl);
-            hand = ap (labels owner) hand ∙ outside_hand placed ∙ ap (λ l. (v.thread, None) ∷ l) (sym (ap (λ xs. picked xs (lying is_out) 0 now) (nothing_seen placed) ∙ picked_nil (lying is_out) 0 now));
-            gathered = λ z. absurd (never_out placed z);
-          }))
+        let v = m.0 in
+        let w = counted (moved v Holding) 0 r in
+        let is : n.0 ≡ w = view ∙ ap (λ k. counted k 0 r) (if_same r 0 (moved v Holding) v e) in
+        subst (λ k. Facts owner thread_no is_out now (k, n.1)) (sym is) (record {
+          number = f.number;
+          in_range = let l = f.in_range in omega arith;
+          idle = (refl, refl);
+          hand = ap (labels owner) hand ∙ outside_hand placed ∙ ap (λ l. (v.thread, None) ∷ l) (sym (ap (λ xs. picked xs (lying is_out) 0 now) (nothing_seen placed) ∙ picked_nil (lying is_out) 0 now));
+          gathered = λ z. absurd (never_out placed z);
+        }))
         (λ (ne : r ≢ 0).
-          let v = m.0 in
-          let is : n.0 ≡ counted v 0 r = view ∙ ap (λ k. counted k 0 r) (if_other r 0 (moved v Holding) v ne) in
-          subst (λ k. Facts owner thread_no is_out now (k, n.1)) (sym is) (record {
-            number = f.number;
-            in_range = let l = f.in_range in omega arith;
-            idle = f.idle;
-            hand = ap (labels owner) hand ∙ f.hand ∙ ap (hand_at v.place v.thread v.seen is_out) (sym same);
-            gathered = λ z. absurd (never_out placed z);
-          }))
+        let v = m.0 in
+        let is : n.0 ≡ counted v 0 r = view ∙ ap (λ k. counted k 0 r) (if_other r 0 (moved v Holding) v ne) in
+        subst (λ k. Facts owner thread_no is_out now (k, n.1)) (sym is) (record {
+          number = f.number;
+          in_range = let l = f.in_range in omega arith;
+          idle = f.idle;
+          hand = ap (labels owner) hand ∙ f.hand ∙ ap (hand_at v.place v.thread v.seen is_out) (sym same);
+          gathered = λ z. absurd (never_out placed z);
+        }))
         (same_or_not r 0)
 
     pub after_leave : (r : ℕ) → m.0.place ≡ Inside → n.0 ≡ view_after Leave r m.0 → n.1 ≡ m.1 → Facts owner thread_no is_out now n
     after_leave r placed view hand = subst (λ k. Facts owner thread_no is_out now (k, n.1)) (sym view) (record {
-        number = f.number;
-        in_range = let l = f.in_range in omega arith;
-        idle = (f.idle.0 ∙ ap (λ p. lists_at p m.0.posted) placed, f.idle.1 ∙ ap (λ p. lists_at p m.0.seen) placed);
-        hand = ap (labels owner) hand ∙ f.hand ∙ ap (λ p. hand_at p m.0.thread m.0.seen is_out slots) placed;
-        gathered = λ z. let q : Inside ≡ Holding = sym placed ∙ (f.gathered z).0 in absurd (cc);
-      })
+      number = f.number;
+      in_range = let l = f.in_range in omega arith;
+      idle = (f.idle.0 ∙ ap (λ p. lists_at p m.0.posted) placed, f.idle.1 ∙ ap (λ p. lists_at p m.0.seen) placed);
+      hand = ap (labels owner) hand ∙ f.hand ∙ ap (λ p. hand_at p m.0.thread m.0.seen is_out slots) placed;
+      gathered = λ z. let q : Inside ≡ Holding = sym placed ∙ (f.gathered z).0 in absurd (cc);
+    })
 
     pub after_enter : (r : ℕ) → m.0.place ≡ Outside → n.0 ≡ view_after Enter r m.0 → n.1 ≡ m.1 → Facts owner thread_no is_out now n
     after_enter r placed view hand = ⊎_elim
         (λ (e : r ≡ 0).
-          let is : n.0 ≡ counted (moved m.0 Inside) (suc m.0.thread) r = view ∙ ap (λ k. counted k (suc m.0.thread) r) (if_same r 0 (moved m.0 Inside) m.0 e) in
-          subst (λ k. Facts owner thread_no is_out now (k, n.1)) (sym is) (record {
-            number = f.number;
-            in_range = let l = f.in_range in omega arith;
-            idle = (f.idle.0 ∙ ap (λ p. lists_at p m.0.posted) placed, f.idle.1 ∙ ap (λ p. lists_at p m.0.seen) placed);
-            hand = ap (labels owner) hand ∙ outside_hand placed;
-            gathered = λ z. absurd (never_out placed z);
-          }))
+        let is : n.0 ≡ counted (moved m.0 Inside) (suc m.0.thread) r = view ∙ ap (λ k. counted k (suc m.0.thread) r) (if_same r 0 (moved m.0 Inside) m.0 e) in
+        subst (λ k. Facts owner thread_no is_out now (k, n.1)) (sym is) (record {
+          number = f.number;
+          in_range = let l = f.in_range in omega arith;
+          idle = (f.idle.0 ∙ ap (λ p. lists_at p m.0.posted) placed, f.idle.1 ∙ ap (λ p. lists_at p m.0.seen) placed);
+          hand = ap (labels owner) hand ∙ outside_hand placed;
+          gathered = λ z. absurd (never_out placed z);
+        }))
         (λ (ne : r ≢ 0).
-          let is : n.0 ≡ counted m.0 (suc m.0.thread) r = view ∙ ap (λ k. counted k (suc m.0.thread) r) (if_other r 0 (moved m.0 Inside) m.0 ne) in
-          subst (λ k. Facts owner thread_no is_out now (k, n.1)) (sym is) (record {
-            number = f.number;
-            in_range = let l = f.in_range in omega arith;
-            idle = f.idle;
-            hand = ap (labels owner) hand ∙ f.hand ∙ ap (hand_at m.0.place m.0.thread m.0.seen is_out) (sym same);
-            gathered = λ z. absurd (never_out placed z);
-          }))
+        let is : n.0 ≡ counted m.0 (suc m.0.thread) r = view ∙ ap (λ k. counted k (suc m.0.thread) r) (if_other r 0 (moved m.0 Inside) m.0 ne) in
+        subst (λ k. Facts owner thread_no is_out now (k, n.1)) (sym is) (record {
+          number = f.number;
+          in_range = let l = f.in_range in omega arith;
+          idle = f.idle;
+          hand = ap (labels owner) hand ∙ f.hand ∙ ap (hand_at m.0.place m.0.thread m.0.seen is_out) (sym same);
+          gathered = λ z. absurd (never_out placed z);
+        }))
         (same_or_not r 0)
 
     pub after_post : (r u : ℕ) → m.0.place ≡ Holding → n.0 ≡ view_after (Post u) r m.0 → n.1 ≡ m.1 → Facts owner thread_no is_out now n
     after_post r u placed view hand = subst (λ k. Facts owner thread_no is_out now (k, n.1)) (sym view) (record {
-        number = f.number;
-        in_range = let l = f.in_range in omega arith;
-        idle = (sym (ap (λ p. lists_at p (u ∷ m.0.posted)) placed), f.idle.1);
-        hand = ap (labels owner) hand ∙ f.hand ∙ ap (hand_at m.0.place m.0.thread m.0.seen is_out) (sym same);
-        gathered = λ z. let g = f.gathered z in (g.0, λ k lt. g.1 k (omega arith));
-      })
+      number = f.number;
+      in_range = let l = f.in_range in omega arith;
+      idle = (sym (ap (λ p. lists_at p (u ∷ m.0.posted)) placed), f.idle.1);
+      hand = ap (labels owner) hand ∙ f.hand ∙ ap (hand_at m.0.place m.0.thread m.0.seen is_out) (sym same);
+      gathered = λ z. let g = f.gathered z in (g.0, λ k lt. g.1 k (omega arith));
+    })
 
     looked : (b c : Bool) (u r : ℕ) → (n.0 ≡ counted (if b then seeing c u m.0 else m.0) (suc u) r) → (n.0.thread ≡ m.0.thread) × (n.0.place ≡ m.0.place) × (n.0.posted ≡ m.0.posted)
     looked true true u r e = (ap (λ (v : View). v.thread) e, ap (λ (v : View). v.place) e, ap (λ (v : View). v.posted) e)
@@ -162,52 +162,52 @@ module _ {P : Type 0} (owner : P → ℕ) where
             → ((own : Option ℕ) → labels owner m.1 ≡ (m.0.thread, own) ∷ picked m.0.seen (lying false) 0 slots → labels owner n.1 ≡ (m.0.thread, own) ∷ picked n.0.seen (lying false) 0 slots)
             → n.0.thread ≡ m.0.thread → n.0.place ≡ Holding → n.0.place ≡ m.0.place → n.0.posted ≡ m.0.posted → Facts owner thread_no is_out now n
         by_out false e view not_own stays moves thread_same placed_now place_same posted_same = record {
-            number = thread_same ∙ f.number;
-            in_range = let l = f.in_range in omega arith;
-            idle = (sym (ap (λ p. lists_at p n.0.posted) placed_now), sym (ap (λ p. lists_at p n.0.seen) placed_now));
-            hand = moves None (f.hand ∙ (λ j. hand_at (placed j) m.0.thread m.0.seen (e j) slots)) ∙ sym (λ j. hand_at (placed_now j) (thread_same j) n.0.seen (e j) (same j));
-            gathered = λ z. absurd (true_not_false (sym z ∙ e));
-          }
+          number = thread_same ∙ f.number;
+          in_range = let l = f.in_range in omega arith;
+          idle = (sym (ap (λ p. lists_at p n.0.posted) placed_now), sym (ap (λ p. lists_at p n.0.seen) placed_now));
+          hand = moves None (f.hand ∙ (λ j. hand_at (placed j) m.0.thread m.0.seen (e j) slots)) ∙ sym (λ j. hand_at (placed_now j) (thread_same j) n.0.seen (e j) (same j));
+          gathered = λ z. absurd (true_not_false (sym z ∙ e));
+        }
         by_out true e view not_own stays moves thread_same placed_now place_same posted_same =
             let g = f.gathered e in
             let seen_same = seen_again (has 4 r) u r (g.1 u lt not_own) view in record {
-            number = thread_same ∙ f.number;
-            in_range = let l = f.in_range in omega arith;
-            idle = (sym (ap (λ p. lists_at p n.0.posted) placed_now), sym (ap (λ p. lists_at p n.0.seen) placed_now));
-            hand = ap (labels owner) (stays seen_same) ∙ f.hand ∙ sym (λ j. hand_at (place_same j) (thread_same j) (seen_same j) is_out (same j));
-            gathered = λ z. (placed_now, λ k k_lt apart. ap (is_in k) seen_same ∙ g.1 k (omega arith) (λ q. apart (q ∙ sym thread_same)));
-          }
+              number = thread_same ∙ f.number;
+              in_range = let l = f.in_range in omega arith;
+              idle = (sym (ap (λ p. lists_at p n.0.posted) placed_now), sym (ap (λ p. lists_at p n.0.seen) placed_now));
+              hand = ap (labels owner) (stays seen_same) ∙ f.hand ∙ sym (λ j. hand_at (place_same j) (thread_same j) (seen_same j) is_out (same j));
+              gathered = λ z. (placed_now, λ k k_lt apart. ap (is_in k) seen_same ∙ g.1 k (omega arith) (λ q. apart (q ∙ sym thread_same)));
+            }
 
     pub after_resume : (r : ℕ) → m.0.place ≡ Parked → n.0 ≡ view_after Resume r m.0 → (r ≡ 4 → labels owner n.1 ≡ (m.0.thread, None) ∷ []) → (r ≢ 4 → n.1 ≡ []) → Facts owner thread_no is_out now n
     after_resume r placed view went stays = ⊎_elim
         (λ (e : r ≡ 4).
-          let is : n.0 ≡ counted (moved m.0 Outside) (suc m.0.thread) r = view ∙ ap (λ k. counted k (suc m.0.thread) r) (if_same r 4 (moved m.0 Outside) m.0 e) in
-          subst (λ k. Facts owner thread_no is_out now (k, n.1)) (sym is) (record {
-            number = f.number;
-            in_range = let l = f.in_range in omega arith;
-            idle = (f.idle.0 ∙ ap (λ p. lists_at p m.0.posted) placed, f.idle.1 ∙ ap (λ p. lists_at p m.0.seen) placed);
-            hand = went e;
-            gathered = λ z. let q : Parked ≡ Holding = sym placed ∙ (f.gathered z).0 in absurd (cc);
-          }))
+        let is : n.0 ≡ counted (moved m.0 Outside) (suc m.0.thread) r = view ∙ ap (λ k. counted k (suc m.0.thread) r) (if_same r 4 (moved m.0 Outside) m.0 e) in
+        subst (λ k. Facts owner thread_no is_out now (k, n.1)) (sym is) (record {
+          number = f.number;
+          in_range = let l = f.in_range in omega arith;
+          idle = (f.idle.0 ∙ ap (λ p. lists_at p m.0.posted) placed, f.idle.1 ∙ ap (λ p. lists_at p m.0.seen) placed);
+          hand = went e;
+          gathered = λ z. let q : Parked ≡ Holding = sym placed ∙ (f.gathered z).0 in absurd (cc);
+        }))
         (λ (ne : r ≢ 4).
-          let is : n.0 ≡ counted m.0 (suc m.0.thread) r = view ∙ ap (λ k. counted k (suc m.0.thread) r) (if_other r 4 (moved m.0 Outside) m.0 ne) in
-          subst (λ k. Facts owner thread_no is_out now (k, n.1)) (sym is) (record {
-            number = f.number;
-            in_range = let l = f.in_range in omega arith;
-            idle = f.idle;
-            hand = ap (labels owner) (stays ne) ∙ sym (ap (λ p. hand_at p m.0.thread m.0.seen is_out now) placed);
-            gathered = λ z. let q : Parked ≡ Holding = sym placed ∙ (f.gathered z).0 in absurd (cc);
-          }))
+        let is : n.0 ≡ counted m.0 (suc m.0.thread) r = view ∙ ap (λ k. counted k (suc m.0.thread) r) (if_other r 4 (moved m.0 Outside) m.0 ne) in
+        subst (λ k. Facts owner thread_no is_out now (k, n.1)) (sym is) (record {
+          number = f.number;
+          in_range = let l = f.in_range in omega arith;
+          idle = f.idle;
+          hand = ap (labels owner) (stays ne) ∙ sym (ap (λ p. hand_at p m.0.thread m.0.seen is_out now) placed);
+          gathered = λ z. let q : Parked ≡ Holding = sym placed ∙ (f.gathered z).0 in absurd (cc);
+        }))
         (same_or_not r 4)
 
     pub after_park : (r : ℕ) → m.0.place ≡ Outside → n.0 ≡ view_after Park r m.0 → n.1 ≡ [] → Facts owner thread_no is_out now n
     after_park r placed view hand = subst (λ k. Facts owner thread_no is_out now (k, n.1)) (sym view) (record {
-        number = f.number;
-        in_range = let l = f.in_range in omega arith;
-        idle = (f.idle.0 ∙ ap (λ p. lists_at p m.0.posted) placed, f.idle.1 ∙ ap (λ p. lists_at p m.0.seen) placed);
-        hand = ap (labels owner) hand;
-        gathered = λ z. absurd (never_out placed z);
-      })
+      number = f.number;
+      in_range = let l = f.in_range in omega arith;
+      idle = (f.idle.0 ∙ ap (λ p. lists_at p m.0.posted) placed, f.idle.1 ∙ ap (λ p. lists_at p m.0.seen) placed);
+      hand = ap (labels owner) hand;
+      gathered = λ z. absurd (never_out placed z);
+    })
 
   pub hand_before_look : (thread_no : ℕ) (is_out : Bool) (slots now key : ℕ) → now ≡ slots → key ≡ now → (m : Me (Option P) View) → Facts owner thread_no is_out slots m → (u : ℕ) → m.0.place ≡ Holding
       → u < key → u ≢ m.0.thread → is_in u m.0.seen ≡ false → (own : Option ℕ) × (labels owner m.1 ≡ (m.0.thread, own) ∷ picked m.0.seen (lying false) 0 now)

@@ -6,3 +6,4 @@ pub mod Rule
 pub mod Plays
 pub mod Seats
 pub mod Replies
+pub mod Slots

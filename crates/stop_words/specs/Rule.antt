@@ -56,3 +56,7 @@ splitting v = record v { given = v.given + 1 }
 -- the view of the new seat
 abbrev pub split_off : View → View
 split_off v = record { thread = v.given; place = Parked; posted = []; seen = []; given = 0; steps = 0; word = 0; found = 0 }
+
+-- the view of the first seat, once k numbers were given
+abbrev pub giving : ℕ → View
+giving k = record first_view { given = k }

@@ -5,8 +5,10 @@ mod replies;
 mod rule;
 mod seats;
 mod steps;
+mod table;
 pub mod view;
 
 pub use replies::{Claim, Entry, Resumed};
 pub use seats::{StopSeat, StopWords};
+pub use table::NoTable;
 pub use view::{Place, View};

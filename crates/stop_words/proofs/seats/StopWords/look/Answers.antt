@@ -12,9 +12,12 @@ load-found-requires g c =
     let o = c.requires.other in
     let k = t.counts in
     let f : Facts g.P.Owned.owner_of seat.thread seat.out seat.seat.table_id.slots seat.seat.me = record { number = seat.number; in_range = seat.in_range; idle = seat.idle; hand = seat.hand; gathered = seat.gathered } in
-    let same = ap (λ (z : TableId). z.slots) c.requires.seat in
-    (c.requires.seat, omega arith, looks g.P.Owned.owner_of t.table.shared.key t.table.shared.table_id.slots seat.seat.id c.word_index-word.result c.args.other seat.seat.me c.word_index-word.ensures c.requires.place o.1
-      (hand_before_look g.P.Owned.owner_of seat.thread seat.out seat.seat.table_id.slots t.table.shared.table_id.slots t.table.shared.key (sym same) (k.2 ∙ sym k.1) seat.seat.me f c.args.other c.requires.place))
+    let same = ap (λ (z : TableId). z.slots) c.requires.seat in (
+      c.requires.seat,
+      omega arith,
+      looks g.P.Owned.owner_of t.table.shared.key t.table.shared.table_id.slots seat.seat.id c.word_index-word.result c.args.other seat.seat.me c.word_index-word.ensures c.requires.place o.1
+          (hand_before_look g.P.Owned.owner_of seat.thread seat.out seat.seat.table_id.slots t.table.shared.table_id.slots t.table.shared.key (sym same) (k.2 ∙ sym k.1) seat.seat.me f c.args.other c.requires.place),
+    )
 
 pub invariant_of-seat : goal.invariant_of-seat
 invariant_of-seat g c =
