@@ -7,3 +7,4 @@ pub mod SeatFacts
 pub mod Replying
 pub mod Seating
 pub mod Closing
+pub mod Looking

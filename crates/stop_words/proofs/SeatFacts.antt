@@ -14,7 +14,7 @@ use Rattle.stop_words.specs.Places.{is_in, without, lists_at}
 use Rattle.stop_words.specs.Views.{view_after, seeing, moved, counted, SeenAll}
 use Rattle.stop_words.specs.Hands.{label, labels, picked, lying, hand_at}
 use Rattle.stop_words.specs.Plays.{Looked}
-use Rattle.stop_words.proofs.Basics.{if_same, if_other, same_or_not, true_not_false}
+use Rattle.stop_words.proofs.Basics.{in_else, if_same, if_other, same_or_not, true_not_false}
 
 -- the word of a thread is one of the words
 pub word_below : (z w : TableId) (thread i : ℕ) {threads : ℕ} → z ≡ w → thread < z.slots → w.words ≡ suc threads → w.slots ≡ threads → i ≡ suc thread → i < w.words
@@ -32,6 +32,7 @@ pub record Facts {P : Type 0} (owner : P → ℕ) (thread_no : ℕ) (is_out : Bo
   pub number : m.0.thread ≡ thread_no
   pub in_range : thread_no < slots
   pub idle : (m.0.posted ≡ lists_at m.0.place m.0.posted) × (m.0.seen ≡ lists_at m.0.place m.0.seen)
+  pub alone : is_in m.0.thread m.0.seen ≡ false
   pub hand : labels owner m.1 ≡ hand_at m.0.place m.0.thread m.0.seen is_out slots
   pub gathered : is_out ≡ true → (m.0.place ≡ Holding) × SeenAll m.0 slots
 
@@ -87,6 +88,7 @@ module _ {P : Type 0} (owner : P → ℕ) where
           number = f.number;
           in_range = let l = f.in_range in omega arith;
           idle = (refl, refl);
+          alone = f.alone;
           hand = ap (labels owner) hand ∙ outside_hand placed ∙ ap (λ l. (v.thread, None) ∷ l) (sym (ap (λ xs. picked xs (lying is_out) 0 now) (nothing_seen placed) ∙ picked_nil (lying is_out) 0 now));
           gathered = λ z. absurd (never_out placed z);
         }))
@@ -97,6 +99,7 @@ module _ {P : Type 0} (owner : P → ℕ) where
           number = f.number;
           in_range = let l = f.in_range in omega arith;
           idle = f.idle;
+          alone = f.alone;
           hand = ap (labels owner) hand ∙ f.hand ∙ ap (hand_at v.place v.thread v.seen is_out) (sym same);
           gathered = λ z. absurd (never_out placed z);
         }))
@@ -107,6 +110,7 @@ module _ {P : Type 0} (owner : P → ℕ) where
       number = f.number;
       in_range = let l = f.in_range in omega arith;
       idle = (f.idle.0 ∙ ap (λ p. lists_at p m.0.posted) placed, f.idle.1 ∙ ap (λ p. lists_at p m.0.seen) placed);
+      alone = f.alone;
       hand = ap (labels owner) hand ∙ f.hand ∙ ap (λ p. hand_at p m.0.thread m.0.seen is_out slots) placed;
       gathered = λ z. let q : Inside ≡ Holding = sym placed ∙ (f.gathered z).0 in absurd (cc);
     })
@@ -119,6 +123,7 @@ module _ {P : Type 0} (owner : P → ℕ) where
           number = f.number;
           in_range = let l = f.in_range in omega arith;
           idle = (f.idle.0 ∙ ap (λ p. lists_at p m.0.posted) placed, f.idle.1 ∙ ap (λ p. lists_at p m.0.seen) placed);
+          alone = f.alone;
           hand = ap (labels owner) hand ∙ outside_hand placed;
           gathered = λ z. absurd (never_out placed z);
         }))
@@ -128,6 +133,7 @@ module _ {P : Type 0} (owner : P → ℕ) where
           number = f.number;
           in_range = let l = f.in_range in omega arith;
           idle = f.idle;
+          alone = f.alone;
           hand = ap (labels owner) hand ∙ f.hand ∙ ap (hand_at m.0.place m.0.thread m.0.seen is_out) (sym same);
           gathered = λ z. absurd (never_out placed z);
         }))
@@ -138,6 +144,7 @@ module _ {P : Type 0} (owner : P → ℕ) where
       number = f.number;
       in_range = let l = f.in_range in omega arith;
       idle = (sym (ap (λ p. lists_at p (u ∷ m.0.posted)) placed), f.idle.1);
+      alone = f.alone;
       hand = ap (labels owner) hand ∙ f.hand ∙ ap (hand_at m.0.place m.0.thread m.0.seen is_out) (sym same);
       gathered = λ z. let g = f.gathered z in (g.0, λ k lt. g.1 k (omega arith));
     })
@@ -151,29 +158,36 @@ module _ {P : Type 0} (owner : P → ℕ) where
     seen_again true u r t e = ap (λ (v : View). v.seen) e ∙ ap (λ c. (seeing c u m.0).seen) t
     seen_again false u r t e = ap (λ (v : View). v.seen) e
 
+    alone_after : (b c : Bool) (u r : ℕ) → n.0 ≡ counted (if b then seeing c u m.0 else m.0) (suc u) r → u ≢ m.0.thread → is_in n.0.thread n.0.seen ≡ false
+    alone_after true true u r e apart = ap (λ (v : View). is_in v.thread v.seen) e ∙ f.alone
+    alone_after true false u r e apart = ap (λ (v : View). is_in v.thread v.seen) e ∙ in_else m.0.thread u m.0.seen (λ z. apart (sym z)) ∙ f.alone
+    alone_after false c u r e apart = ap (λ (v : View). is_in v.thread v.seen) e ∙ f.alone
+
     pub after_look : (i u r : ℕ) → i ≡ suc u → u < slots → m.0.place ≡ Holding → Looked owner (step slots i 0 0 none) m r n → Facts owner thread_no is_out now n
     after_look i u r at_i lt placed play =
         let told = play u at_i in
         let kept = looked (has 4 r) (is_in u m.0.seen) u r told.0 in
         let place_now : n.0.place ≡ Holding = kept.1 ∙ placed in
-        by_out is_out refl told.0 told.2 told.3 told.4 kept.0 place_now kept.1 kept.2
+        by_out is_out refl told.0 told.2 told.3 told.4 kept.0 place_now kept.1 kept.2 (alone_after (has 4 r) (is_in u m.0.seen) u r told.0 told.2)
       where
         by_out : (b : Bool) → is_out ≡ b → n.0 ≡ view_after (Look u) r m.0 → u ≢ m.0.thread → (n.0.seen ≡ m.0.seen → n.1 ≡ m.1)
             → ((own : Option ℕ) → labels owner m.1 ≡ (m.0.thread, own) ∷ picked m.0.seen (lying false) 0 slots → labels owner n.1 ≡ (m.0.thread, own) ∷ picked n.0.seen (lying false) 0 slots)
-            → n.0.thread ≡ m.0.thread → n.0.place ≡ Holding → n.0.place ≡ m.0.place → n.0.posted ≡ m.0.posted → Facts owner thread_no is_out now n
-        by_out false e view not_own stays moves thread_same placed_now place_same posted_same = record {
+            → n.0.thread ≡ m.0.thread → n.0.place ≡ Holding → n.0.place ≡ m.0.place → n.0.posted ≡ m.0.posted → is_in n.0.thread n.0.seen ≡ false → Facts owner thread_no is_out now n
+        by_out false e view not_own stays moves thread_same placed_now place_same posted_same alone_now = record {
           number = thread_same ∙ f.number;
           in_range = let l = f.in_range in omega arith;
           idle = (sym (ap (λ p. lists_at p n.0.posted) placed_now), sym (ap (λ p. lists_at p n.0.seen) placed_now));
+          alone = alone_now;
           hand = moves None (f.hand ∙ (λ j. hand_at (placed j) m.0.thread m.0.seen (e j) slots)) ∙ sym (λ j. hand_at (placed_now j) (thread_same j) n.0.seen (e j) (same j));
           gathered = λ z. absurd (true_not_false (sym z ∙ e));
         }
-        by_out true e view not_own stays moves thread_same placed_now place_same posted_same =
+        by_out true e view not_own stays moves thread_same placed_now place_same posted_same alone_now =
             let g = f.gathered e in
             let seen_same = seen_again (has 4 r) u r (g.1 u lt not_own) view in record {
               number = thread_same ∙ f.number;
               in_range = let l = f.in_range in omega arith;
               idle = (sym (ap (λ p. lists_at p n.0.posted) placed_now), sym (ap (λ p. lists_at p n.0.seen) placed_now));
+              alone = alone_now;
               hand = ap (labels owner) (stays seen_same) ∙ f.hand ∙ sym (λ j. hand_at (place_same j) (thread_same j) (seen_same j) is_out (same j));
               gathered = λ z. (placed_now, λ k k_lt apart. ap (is_in k) seen_same ∙ g.1 k (omega arith) (λ q. apart (q ∙ sym thread_same)));
             }
@@ -186,6 +200,7 @@ module _ {P : Type 0} (owner : P → ℕ) where
           number = f.number;
           in_range = let l = f.in_range in omega arith;
           idle = (f.idle.0 ∙ ap (λ p. lists_at p m.0.posted) placed, f.idle.1 ∙ ap (λ p. lists_at p m.0.seen) placed);
+          alone = f.alone;
           hand = went e;
           gathered = λ z. let q : Parked ≡ Holding = sym placed ∙ (f.gathered z).0 in absurd (cc);
         }))
@@ -195,6 +210,7 @@ module _ {P : Type 0} (owner : P → ℕ) where
           number = f.number;
           in_range = let l = f.in_range in omega arith;
           idle = f.idle;
+          alone = f.alone;
           hand = ap (labels owner) (stays ne) ∙ sym (ap (λ p. hand_at p m.0.thread m.0.seen is_out now) placed);
           gathered = λ z. let q : Parked ≡ Holding = sym placed ∙ (f.gathered z).0 in absurd (cc);
         }))
@@ -205,6 +221,7 @@ module _ {P : Type 0} (owner : P → ℕ) where
       number = f.number;
       in_range = let l = f.in_range in omega arith;
       idle = (f.idle.0 ∙ ap (λ p. lists_at p m.0.posted) placed, f.idle.1 ∙ ap (λ p. lists_at p m.0.seen) placed);
+      alone = f.alone;
       hand = ap (labels owner) hand;
       gathered = λ z. absurd (never_out placed z);
     })

@@ -31,3 +31,8 @@ hand_at Parked t xs out n = []
 hand_at Outside t xs out n = (t, None) ∷ []
 hand_at Inside t xs out n = (t, None) ∷ []
 hand_at Holding t xs out n = (t, None) ∷ picked xs (lying out) 0 n
+
+-- the slots of m threads from a on, each labelled by f
+abbrev pub labelled : (ℕ → Option ℕ) → ℕ → ℕ → List (ℕ × Option ℕ)
+labelled f a zero = []
+labelled f a (suc m) = (a, f a) ∷ labelled f (suc a) m

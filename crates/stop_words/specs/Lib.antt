@@ -7,3 +7,5 @@ pub mod Plays
 pub mod Seats
 pub mod Replies
 pub mod Slots
+pub mod Gathers
+pub mod Looks

@@ -1,6 +1,7 @@
 //! Stop words.
 #![tactic(auto)]
 
+mod gather;
 mod replies;
 mod rule;
 mod seats;
@@ -8,6 +9,7 @@ mod steps;
 mod table;
 pub mod view;
 
+pub use gather::{Gathered, NotYet};
 pub use replies::{Claim, Entry, Resumed};
 pub use seats::{StopSeat, StopWords};
 pub use table::NoTable;

@@ -1,6 +1,6 @@
 //! The types that callers hold.
-ghost use Rattle.std.specs.Prelude.{◌≡◌, ◌<◌, suc, true};
-ghost use Rattle.stop_words.specs.Places.{lists_at};
+ghost use Rattle.std.specs.Prelude.{◌≡◌, ◌<◌, suc, true, false};
+ghost use Rattle.stop_words.specs.Places.{lists_at, is_in};
 ghost use Rattle.stop_words.specs.Hands.{labels, hand_at};
 ghost use Rattle.stop_words.specs.Views.{SeenAll};
 ghost use Rattle.stop_words.specs.declared.view.Place.TheVariants.{Holding};
@@ -32,6 +32,7 @@ pub struct StopSeat<P: Owned> {
     ghost number: { seat.me.0.thread ≡ thread },
     ghost in_range: { thread < seat.table_id.slots },
     ghost idle: { (seat.me.0.posted ≡ lists_at seat.me.0.place seat.me.0.posted) × (seat.me.0.seen ≡ lists_at seat.me.0.place seat.me.0.seen) },
+    ghost alone: { is_in seat.me.0.thread seat.me.0.seen ≡ false },
     ghost hand: { labels P.owner_of seat.me.1 ≡ hand_at seat.me.0.place seat.me.0.thread seat.me.0.seen out seat.table_id.slots },
     ghost gathered: { out ≡ true → (seat.me.0.place ≡ Holding) × SeenAll seat.me.0 seat.table_id.slots },
 }

@@ -14,6 +14,6 @@ invariant_of-seat g c =
     let seat = c.args.seat.now in
     let now = c.fetch_and-found.new.seat in
     let e = c.fetch_and-found.ensures in
-    let f : Facts g.P.Owned.owner_of seat.thread seat.out seat.seat.table_id.slots seat.seat.me = record { number = seat.number; in_range = seat.in_range; idle = seat.idle; hand = seat.hand; gathered = seat.gathered } in
+    let f : Facts g.P.Owned.owner_of seat.thread seat.out seat.seat.table_id.slots seat.seat.me = record { number = seat.number; in_range = seat.in_range; idle = seat.idle; alone = seat.alone; hand = seat.hand; gathered = seat.gathered } in
     let a = after_leave g.P.Owned.owner_of seat.thread seat.out seat.seat.table_id.slots now.table_id.slots (ap (λ (z : TableId). z.slots) e.0) seat.seat.me now.me f c.fetch_and-found.result c.requires.place e.2.0 e.2.1 in
-    record { number = a.number; in_range = a.in_range; idle = a.idle; hand = a.hand; gathered = a.gathered }
+    record { number = a.number; in_range = a.in_range; idle = a.idle; alone = a.alone; hand = a.hand; gathered = a.gathered }

@@ -11,7 +11,7 @@ load-found-requires g c =
     let seat = c.args.seat.now in let t = c.args.self.now in
     let o = c.requires.other in
     let k = t.counts in
-    let f : Facts g.P.Owned.owner_of seat.thread seat.out seat.seat.table_id.slots seat.seat.me = record { number = seat.number; in_range = seat.in_range; idle = seat.idle; hand = seat.hand; gathered = seat.gathered } in
+    let f : Facts g.P.Owned.owner_of seat.thread seat.out seat.seat.table_id.slots seat.seat.me = record { number = seat.number; in_range = seat.in_range; idle = seat.idle; alone = seat.alone; hand = seat.hand; gathered = seat.gathered } in
     let same = ap (λ (z : TableId). z.slots) c.requires.seat in (
       c.requires.seat,
       omega arith,
@@ -28,9 +28,9 @@ invariant_of-seat g c =
     let o = c.requires.other in
     let k = t.counts in
     let same = ap (λ (z : TableId). z.slots) c.requires.seat in
-    let f : Facts g.P.Owned.owner_of seat.thread seat.out t.table.shared.table_id.slots seat.seat.me = subst (λ z. Facts g.P.Owned.owner_of seat.thread seat.out z seat.seat.me) same (record { number = seat.number; in_range = seat.in_range; idle = seat.idle; hand = seat.hand; gathered = seat.gathered }) in
+    let f : Facts g.P.Owned.owner_of seat.thread seat.out t.table.shared.table_id.slots seat.seat.me = subst (λ z. Facts g.P.Owned.owner_of seat.thread seat.out z seat.seat.me) same (record { number = seat.number; in_range = seat.in_range; idle = seat.idle; alone = seat.alone; hand = seat.hand; gathered = seat.gathered }) in
     let a = after_look g.P.Owned.owner_of seat.thread seat.out t.table.shared.table_id.slots now.table_id.slots (ap (λ (z : TableId). z.slots) e.0 ∙ same) seat.seat.me now.me f c.word_index-word.result c.args.other c.load-found.result c.word_index-word.ensures (omega arith) c.requires.place e.2 in
-    record { number = a.number; in_range = a.in_range; idle = a.idle; hand = a.hand; gathered = a.gathered }
+    record { number = a.number; in_range = a.in_range; idle = a.idle; alone = a.alone; hand = a.hand; gathered = a.gathered }
 
 pub returns-clause-word : goal.returns-clause-word
 returns-clause-word g c = let l = c.load-found in let p = l.ensures.2 c.args.other c.word_index-word.ensures in found_word (WordStep.TheVariants.Look c.args.other) l.result c.args.seat.now.seat.me.0 l.new.seat.me.0 p.0 p.1

@@ -19,9 +19,9 @@ invariant_of-seat g c =
     let now = c.fetch_or-found.new.seat in
     let e = c.fetch_or-found.ensures in
     let p = e.2 c.args.other c.word_index-word.ensures in
-    let f : Facts g.P.Owned.owner_of seat.thread seat.out seat.seat.table_id.slots seat.seat.me = record { number = seat.number; in_range = seat.in_range; idle = seat.idle; hand = seat.hand; gathered = seat.gathered } in
+    let f : Facts g.P.Owned.owner_of seat.thread seat.out seat.seat.table_id.slots seat.seat.me = record { number = seat.number; in_range = seat.in_range; idle = seat.idle; alone = seat.alone; hand = seat.hand; gathered = seat.gathered } in
     let a = after_post g.P.Owned.owner_of seat.thread seat.out seat.seat.table_id.slots now.table_id.slots (ap (λ (z : TableId). z.slots) e.0) seat.seat.me now.me f c.fetch_or-found.result c.args.other c.requires.place p.0 p.1 in
-    record { number = a.number; in_range = a.in_range; idle = a.idle; hand = a.hand; gathered = a.gathered }
+    record { number = a.number; in_range = a.in_range; idle = a.idle; alone = a.alone; hand = a.hand; gathered = a.gathered }
 
 pub returns-clause-step : goal.returns-clause-step
 returns-clause-step g c = let l = c.fetch_or-found in let p = l.ensures.2 c.args.other c.word_index-word.ensures in did (WordStep.TheVariants.Post c.args.other) l.result c.args.seat.now.seat.me.0 l.new.seat.me.0 p.0
