@@ -8,3 +8,4 @@ pub mod Replying
 pub mod Seating
 pub mod Closing
 pub mod Looking
+pub mod Handing

@@ -1,6 +1,6 @@
 -- What a seat knows and holds, before and after each step.
 use Rattle.std.proofs.Common.{◌≡◌, ◌≢◌, ◌<◌, ◌≤◌, ◌+◌, ℕ, zero, suc, Bool, true, false, List, [], ◌∷◌, Option, None, Some, option_map, MatchOption, refl, sym, ap, ◌∙◌, subst, ⊎_elim, arith}
-use Rattle.std.specs.Prelude.{if◌then◌else◌}
+use Rattle.std.specs.Prelude.{if◌then◌else◌, IsSome}
 use Rattle.atomic_table.specs.Seated.{TableId}
 use Rattle.atomic_table.specs.Table.{Me, Step, step, rest}
 use mathlib.Core.Option.{none}
@@ -233,3 +233,10 @@ module _ {P : Type 0} (owner : P → ℕ) where
       by_out : (b : Bool) → is_out ≡ b → (own : Option ℕ) × (labels owner m.1 ≡ (m.0.thread, own) ∷ picked m.0.seen (lying false) 0 now)
       by_out true e = absurd (true_not_false (sym ((f.gathered e).1 u (omega arith) apart) ∙ not_seen))
       by_out false e = (None, f.hand ∙ (λ j. hand_at (placed j) m.0.thread m.0.seen (e j) (sym same j)))
+
+  pub some_there : (x : Option P) (t : ℕ) → option_map owner x ≡ Some t → IsSome x
+  some_there None t e = absurd (cc)
+  some_there (Some p) t e = refl
+
+  pub owner_is : (x : Option P) (p : P) (t : ℕ) → option_map owner x ≡ Some t → x ≡ Some p → owner p ≡ t
+  owner_is x p t e is = let q : Some (owner p) ≡ Some t = sym (ap (option_map owner) is) ∙ e in cc

@@ -1,5 +1,5 @@
 -- What the holder of the turn knows after looking at the other threads, and after it took their stops back. This project's own.
-use Rattle.std.specs.Prelude.{◌≡◌, ◌≢◌, ◌+◌, ◌-◌, ◌<◌, ◌≤◌, ℕ, suc, Bool, true, false, List, []}
+use Rattle.std.specs.Prelude.{◌≡◌, ◌≢◌, ◌+◌, ◌-◌, ◌<◌, ◌≤◌, ◌⊎◌, ℕ, suc, Bool, true, false, List, []}
 use Rattle.heap_terms.specs.WordMachine.{has}
 use Rattle.stop_words.specs.declared.view.Place.TheVariants.{Outside}
 use Rattle.stop_words.specs.declared.view.View.{View}
@@ -37,3 +37,13 @@ pub record GaveBack (threads : ℕ) (v w : View) : Type 0 where
   pub given : w.given ≡ v.given
   pub steps : w.steps ≡ v.steps + threads
   pub latest : (w.word ≡ 0) × (w.found ≡ suc v.thread)
+
+-- the stops of the threads from a to k were taken back, in as many steps
+pub record PutBack (a k : ℕ) (v w : View) : Type 0 where
+  pub thread : w.thread ≡ v.thread
+  pub place : w.place ≡ v.place
+  pub given : w.given ≡ v.given
+  pub posted : (u : ℕ) → (u < a) ⊎ (k ≤ u) → is_in u w.posted ≡ is_in u v.posted
+  pub seen : (u : ℕ) → (u < a) ⊎ (k ≤ u) → is_in u w.seen ≡ is_in u v.seen
+  pub gone : (u : ℕ) → a ≤ u → u < k → is_in u w.posted ≡ false
+  pub steps : w.steps ≡ v.steps + (k - a)

@@ -6,12 +6,17 @@ use Rattle.stop_words.specs.declared.view.View.{View}
 use Rattle.stop_words.specs.declared.view.Place.TheVariants.{Parked}
 use Rattle.stop_words.specs.declared.seats.StopSeat.{StopSeat}
 use Rattle.stop_words.specs.declared.seats.StopWords.{StopWords}
+use Rattle.stop_words.specs.declared.gather.Gathered.{Gathered}
 use Rattle.stop_words.specs.Views.{view_after}
 
 module _ {P : Type 0} where
   -- how many threads there are
   abbrev pub threads_of : StopWords P → ℕ
   threads_of words = words.threads
+
+  -- the parcels that were gathered, in their order
+  abbrev pub parcels_of : Gathered P → List P
+  parcels_of gathered = gathered.parcels.items
 
   module _ {G : Ghosts P} where
     -- what the seat knows
