@@ -1,12 +1,18 @@
 -- The hand of the holder, slot by slot, and the owners of parcels, number by number.
 use Rattle.std.proofs.Common.{◌≡◌, ◌≢◌, ◌⊎◌, ◌<◌, ◌≤◌, ◌+◌, ◌-◌, ℕ, zero, suc, Bool, true, false, List, [], ◌∷◌, ◌++◌, Option, None, Some, option_map, map, length, reverse, refl, sym, ap, ◌∙◌, subst, append_assoc, append-nil, add-one, arith}
-use Rattle.std.proofs.lemmas.List.{map-append, reverse-append, length-map, length-reverse}
+use Rattle.std.proofs.lemmas.List.{map-append, reverse-append, reverse-reverse, length-map, length-reverse}
 use Rattle.std.specs.Prelude.{if◌then◌else◌, slice_get}
-use Rattle.atomic_table.specs.Table.{rest}
+use Rattle.atomic_table.specs.Table.{rest, turned}
 use Rattle.stop_words.specs.Places.{is_in}
 use Rattle.stop_words.specs.Hands.{label, labels, picked, lying, labelled}
 use Rattle.stop_words.specs.Owners.{numbers_from, ByOwner}
 use Rattle.stop_words.proofs.SeatFacts.{head_of, read_label}
+use Rattle.stop_words.proofs.Start.{length-numbers_from}
+
+map-reverse : {A B : Type 0} (f : A → B) (xs : List A) → map f (reverse xs) ≡ reverse (map f xs)
+map-reverse f [] = refl
+map-reverse f (x ∷ xs) =
+    ap (map f) (reverse-append (x ∷ []) xs) ∙ map-append f (reverse xs) (x ∷ []) ∙ ap (λ l. l ++ f x ∷ []) (map-reverse f xs) ∙ sym (reverse-append (f x ∷ []) (map f xs))
 
 -- one more at the end
 pub labelled_snoc : (f : ℕ → Option ℕ) (a i b : ℕ) → b ≡ a + i → labelled f a i ++ (b, f b) ∷ [] ≡ labelled f a (suc i)
@@ -112,3 +118,55 @@ module _ {P : Type 0} (owner : P → ℕ) where
       empty : (xs : List P) → length xs ≡ 0 → xs ≡ []
       empty [] h = refl
       empty (x ∷ xs) h = absurd (omega arith)
+
+  label_first : (hand : List (ℕ × Option P)) (e : ℕ × Option ℕ) (more : List (ℕ × Option ℕ)) → labels owner hand ≡ e ∷ more → labels owner (turned hand) ≡ more ++ e ∷ []
+  label_first [] e more s = absurd (cc)
+  label_first (x ∷ xs) e more s =
+      let q : label owner x ∷ labels owner xs ≡ e ∷ more = s in
+      let first : label owner x ≡ e = cc in
+      let others : labels owner xs ≡ more = cc in
+      map-append (label owner) xs (x ∷ []) ∙ (λ j. others j ++ first j ∷ [])
+
+  -- the own slot goes behind the others
+  pub own_last : (f : ℕ → Option ℕ) (t n : ℕ) (hand : List (ℕ × Option P)) → labels owner hand ≡ (t, None) ∷ (labelled f 0 t ++ labelled f (t + 1) (n - (t + 1)))
+      → labels owner (turned hand) ≡ labelled f 0 (t - 0) ++ (labelled f (t + 1) (n - (t + 1)) ++ (t, None) ∷ [])
+  own_last f t n hand s =
+      let zero_off : t ≡ t - 0 = omega arith in
+      label_first hand (t, None) (labelled f 0 t ++ labelled f (t + 1) (n - (t + 1))) s ∙ append_assoc (labelled f 0 t) (labelled f (t + 1) (n - (t + 1))) ((t, None) ∷ [])
+      ∙ ap (λ k. labelled f 0 k ++ (labelled f (t + 1) (n - (t + 1)) ++ (t, None) ∷ [])) zero_off
+
+  -- the slots below t were emptied and went behind it
+  pub own_between : (f h : ℕ → Option ℕ) (t n : ℕ) (shown : List (ℕ × Option ℕ)) → shown ≡ (labelled f (t + 1) (n - (t + 1)) ++ (t, None) ∷ []) ++ labelled h 0 (t - 0)
+      → shown ≡ labelled f (t + 1) (n - (t + 1)) ++ ((t, None) ∷ labelled h 0 (t - 0))
+  own_between f h t n shown s = s ∙ append_assoc (labelled f (t + 1) (n - (t + 1))) ((t, None) ∷ []) (labelled h 0 (t - 0))
+
+  -- all slots but the own one were emptied
+  pub own_first : (h : ℕ → Option ℕ) (t n : ℕ) (shown : List (ℕ × Option ℕ)) → shown ≡ ((t, None) ∷ labelled h 0 (t - 0)) ++ labelled h (t + 1) (n - (t + 1)) → shown ≡ (t, None) ∷ (labelled h 0 t ++ labelled h (t + 1) (n - (t + 1)))
+  own_first h t n shown s = let zero_off : t - 0 ≡ t = omega arith in s ∙ ap (λ k. (t, None) ∷ (labelled h 0 k ++ labelled h (t + 1) (n - (t + 1)))) zero_off
+
+  get_mid : (xs : List P) (x : P) (ys : List P) (t : ℕ) → length xs ≡ t → slice_get (xs ++ x ∷ ys) t ≡ Some x
+  get_mid [] x ys zero e = refl
+  get_mid [] x ys (suc t) e = absurd (omega arith)
+  get_mid (z ∷ xs) x ys zero e = absurd (omega arith)
+  get_mid (z ∷ xs) x ys (suc t) e = get_mid xs x ys t (omega arith)
+
+  -- the parcels of those below t, the own one, and those above it
+  pub all_parcels : (t n : ℕ) → t < n → (i0 i1 i2 i3 : List P) (own : P) → i0 ≡ [] → owner own ≡ t
+      → (ys : List P) × (i1 ≡ i0 ++ ys) × (map owner ys ≡ numbers_from 0 (t - 0)) → i2 ≡ i1 ++ own ∷ [] → (ys : List P) × (i3 ≡ i2 ++ ys) × (map owner ys ≡ numbers_from (t + 1) (n - (t + 1)))
+      → (map owner i3 ≡ numbers_from 0 n) × (slice_get i3 t ≡ Some own)
+  all_parcels t n lt i0 i1 i2 i3 own none owned below pushed above =
+      let zero_off : t - 0 ≡ t = omega arith in
+      let first : i1 ≡ below.0 = below.1 ∙ ap (λ l. l ++ below.0) none in
+      let whole : i3 ≡ below.0 ++ (own ∷ above.0) = above.1 ∙ ap (λ l. l ++ above.0) (pushed ∙ ap (λ l. l ++ own ∷ []) first) ∙ append_assoc below.0 (own ∷ []) above.0 in
+      let owners : map owner below.0 ≡ numbers_from 0 t = below.2 ∙ ap (numbers_from 0) zero_off in
+      let rest_of : owner own ∷ map owner above.0 ≡ numbers_from t (suc (n - (t + 1))) = (λ j. owned j ∷ above.2 j) ∙ ap (λ k. t ∷ numbers_from k (n - (t + 1))) (add-one t) in (
+        ap (map owner) whole ∙ map-append owner below.0 (own ∷ above.0) ∙ (λ j. owners j ++ rest_of j) ∙ numbers_split 0 t t (suc (n - (t + 1))) n (omega arith) (omega arith),
+        ap (λ l. slice_get l t) whole ∙ get_mid below.0 own above.0 t (sym (length-map below.0 owner) ∙ ap length owners ∙ length-numbers_from 0 t),
+      )
+
+  -- the parcels in the order in which they are popped
+  pub to_pop : (n t : ℕ) (items back : List P) → t < n → map owner items ≡ numbers_from 0 n → back ≡ reverse items → reverse (map owner back) ≡ numbers_from 0 (t - 0) ++ (t ∷ numbers_from (t + 1) (n - (t + 1)))
+  to_pop n t items back lt owned is =
+      let zero_off : t ≡ t - 0 = omega arith in
+      ap (λ l. reverse (map owner l)) is ∙ ap reverse (map-reverse owner items) ∙ reverse-reverse (map owner items) ∙ owned ∙ sym (numbers_split 0 t t (suc (n - (t + 1))) n (omega arith) (omega arith))
+      ∙ ap (λ k. numbers_from 0 t ++ (t ∷ numbers_from k (n - (t + 1)))) (sym (add-one t)) ∙ ap (λ k. numbers_from 0 k ++ (t ∷ numbers_from (t + 1) (n - (t + 1)))) zero_off

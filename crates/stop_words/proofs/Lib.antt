@@ -9,3 +9,4 @@ pub mod Seating
 pub mod Closing
 pub mod Looking
 pub mod Handing
+pub mod Releasing
