@@ -2,11 +2,14 @@
 use Rattle.std.proofs.Common.{◌≡◌, ◌≢◌, ◌⊎◌, ◌<◌, ◌≤◌, ◌+◌, ◌-◌, ℕ, zero, suc, Bool, true, false, List, [], ◌∷◌, ◌++◌, Option, None, Some, option_map, map, length, reverse, refl, sym, ap, ◌∙◌, subst, append_assoc, append-nil, add-one, arith}
 use Rattle.std.proofs.lemmas.List.{map-append, reverse-append, reverse-reverse, length-map, length-reverse}
 use Rattle.std.specs.Prelude.{if◌then◌else◌, slice_get}
-use Rattle.atomic_table.specs.Table.{rest, turned}
+use Rattle.atomic_table.specs.Table.{Me, rest, turned}
+use Rattle.stop_words.specs.declared.view.Place.TheVariants.{Holding}
+use Rattle.stop_words.specs.declared.view.View.{View}
+use Rattle.stop_words.specs.Views.{SeenAll}
 use Rattle.stop_words.specs.Places.{is_in}
-use Rattle.stop_words.specs.Hands.{label, labels, picked, lying, labelled}
+use Rattle.stop_words.specs.Hands.{label, labels, picked, lying, labelled, hand_at}
 use Rattle.stop_words.specs.Owners.{numbers_from, ByOwner}
-use Rattle.stop_words.proofs.SeatFacts.{head_of, read_label}
+use Rattle.stop_words.proofs.SeatFacts.{Facts, head_of, read_label}
 use Rattle.stop_words.proofs.Start.{length-numbers_from}
 
 map-reverse : {A B : Type 0} (f : A → B) (xs : List A) → map f (reverse xs) ≡ reverse (map f xs)
@@ -170,3 +173,23 @@ module _ {P : Type 0} (owner : P → ℕ) where
       let zero_off : t ≡ t - 0 = omega arith in
       ap (λ l. reverse (map owner l)) is ∙ ap reverse (map-reverse owner items) ∙ reverse-reverse (map owner items) ∙ owned ∙ sym (numbers_split 0 t t (suc (n - (t + 1))) n (omega arith) (omega arith))
       ∙ ap (λ k. numbers_from 0 t ++ (t ∷ numbers_from k (n - (t + 1)))) (sym (add-one t)) ∙ ap (λ k. numbers_from 0 k ++ (t ∷ numbers_from (t + 1) (n - (t + 1)))) zero_off
+
+  -- the hand of a holder that has seen all others parked
+  pub holder_hand : (m : Me (Option P) View) (t n slots : ℕ) (o b : Bool) → labels owner m.1 ≡ hand_at m.0.place m.0.thread m.0.seen o slots → m.0.place ≡ Holding → o ≡ b → slots ≡ n → m.0.thread ≡ t → t < n
+      → is_in m.0.thread m.0.seen ≡ false → SeenAll m.0 n → labels owner m.1 ≡ (t, None) ∷ (labelled (lying b) 0 t ++ labelled (lying b) (t + 1) (n - (t + 1)))
+  holder_hand m t n slots o b hand placed out count number lt alone seen =
+      hand ∙ (λ j. hand_at (placed j) (number j) m.0.seen (out j) (count j))
+      ∙ ap (λ l. (t, None) ∷ l) (picked_others m.0.seen (lying b) t n lt (sym (ap (λ k. is_in k m.0.seen) number) ∙ alone) (λ u hi apart. seen u hi (λ e. apart (e ∙ number))))
+
+  -- what the seat keeps once the parcels are out of the slots
+  pub after_gather : (m now_m : Me (Option P) View) (t n thread_no slots now : ℕ) (o : Bool) → Facts owner thread_no o slots m → now ≡ slots → slots ≡ n → now_m.0 ≡ m.0 → m.0.place ≡ Holding → m.0.thread ≡ t → t < n → SeenAll m.0 n
+      → labels owner now_m.1 ≡ (t, None) ∷ (labelled (lying true) 0 t ++ labelled (lying true) (t + 1) (n - (t + 1))) → Facts owner thread_no true now now_m
+  after_gather m now_m t n thread_no slots now o f same count view placed number lt seen shows = subst (λ v. Facts owner thread_no true now (v, now_m.1)) (sym view) (record {
+    number = f.number;
+    in_range = let l = f.in_range in omega arith;
+    idle = f.idle;
+    alone = f.alone;
+    hand = shows ∙ ap (λ l. (t, None) ∷ l) (sym (picked_others m.0.seen (lying true) t n lt (sym (ap (λ k. is_in k m.0.seen) number) ∙ f.alone) (λ u hi apart. seen u hi (λ e. apart (e ∙ number)))))
+        ∙ sym (λ j. hand_at (placed j) (number j) m.0.seen true ((same ∙ count) j));
+    gathered = λ z. (placed, λ u hi apart. seen u (omega arith) apart);
+  })
