@@ -19,11 +19,11 @@ pub looks_on : (u v w : View) → OnlyLooked u v → OnlyLooked v w → OnlyLook
 looks_on u v w a b = record { thread = b.thread ∙ a.thread; place = b.place ∙ a.place; posted = b.posted ∙ a.posted; given = b.given ∙ a.given; more = λ x e. b.more x (a.more x e) }
 
 -- one look
-record OneLook (u : ℕ) (v w : View) : Type 0 where
-  looked : OnlyLooked v w
-  steps : w.steps ≡ v.steps + 1
-  word : w.word ≡ suc u
-  seen : has 4 w.found ≡ true → is_in u w.seen ≡ true
+pub record OneLook (u : ℕ) (v w : View) : Type 0 where
+  pub looked : OnlyLooked v w
+  pub steps : w.steps ≡ v.steps + 1
+  pub word : w.word ≡ suc u
+  pub seen : has 4 w.found ≡ true → is_in u w.seen ≡ true
 
 still : (u x : ℕ) (us : List ℕ) → is_in x us ≡ true → is_in x (u ∷ us) ≡ true
 still u x us e = ⊎_elim (λ (h : x ≡ u). in_here x u us h) (λ (h : x ≢ u). in_else x u us h ∙ e) (same_or_not x u)
@@ -51,7 +51,7 @@ by_tests u v w false c b_is c_is e =
       seen = λ h. absurd (true_not_false (sym h ∙ b_is));
     }
 
-one_look : (u : ℕ) (v w : View) → w ≡ view_after (Look u) w.found v → OneLook u v w
+pub one_look : (u : ℕ) (v w : View) → w ≡ view_after (Look u) w.found v → OneLook u v w
 one_look u v w e = by_tests u v w (has 4 w.found) (is_in u v.seen) refl refl e
 
 done_is : (b : Bool) → is_done (if b then answered.Went else answered.NotYet) ≡ b

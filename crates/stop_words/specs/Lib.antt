@@ -9,3 +9,4 @@ pub mod Replies
 pub mod Slots
 pub mod Gathers
 pub mod Looks
+pub mod Lending

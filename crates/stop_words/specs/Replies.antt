@@ -4,6 +4,8 @@ use Rattle.heap_terms.specs.declared.steps.StepAnswer.{StepAnswer}
 use Rattle.heap_terms.specs.declared.steps.StepAnswer.TheVariants.{Went, Inside, StopFound, Taken, NotYet}
 use Rattle.heap_terms.specs.declared.steps.WordStep.TheVariants.{Resume}
 use Rattle.heap_terms.specs.WordMachine.{answer}
+use Rattle.stop_words.specs.declared.view.Place.{Place}
+use Rattle.stop_words.specs.declared.view.Place.TheVariants as at
 use Rattle.stop_words.specs.declared.view.View.{View}
 use Rattle.stop_words.specs.declared.replies.Resumed.{Resumed}
 use Rattle.stop_words.specs.declared.replies.Resumed.TheVariants.{Back, StillStopped}
@@ -54,3 +56,16 @@ claim_of NotYet = claim.Claimed
 abbrev pub Answers : {P : Type 0} → (P → ℕ) → View → Resumed P → Type 0
 Answers owner v (Back parcel) = (answer Resume v.found ≡ Went) × (owner parcel ≡ v.thread)
 Answers owner v StillStopped = answer Resume v.found ≡ NotYet
+
+-- where the thread is after each answer
+abbrev pub after_resume : {P : Type 0} → Resumed P → Place
+after_resume (Back parcel) = at.Outside
+after_resume StillStopped = at.Parked
+
+abbrev pub after_enter : Entry → Place
+after_enter Entered = at.Inside
+after_enter StopSeen = at.Outside
+
+abbrev pub after_claim : Claim → Place
+after_claim claim.Claimed = at.Holding
+after_claim (claim.Taken h) = at.Outside

@@ -230,3 +230,16 @@ impl<P: Owned> StopWords<P> {
         given
     }
 }
+
+impl<P> Gathered<P> {
+    ghost use Rattle.std.specs.Borrow.{sem};
+    ghost use Rattle.stop_words.specs.Lending.{LendsParcels};
+
+    /// The parcels, the i-th that of thread i. The thread that gathered them may change them in place.
+    pub fn parcels(&mut self) -> &mut [P]
+        ensures* writes_back { sem 𝓛 (LendsParcels P.row self.entry result) }
+        ensures value { result.now ≡ self.old.parcels.items }
+    {
+        self.parcels.as_mut_slice()
+    }
+}

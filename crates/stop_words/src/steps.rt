@@ -23,7 +23,7 @@ pub(crate) fn word_index(thread: u32) -> usize
 
 impl<P: Owned> StopWords<P> {
     ghost use Rattle.stop_words.specs.Seats.{view_of, is_out, IsSeatOf, Did, threads_of};
-    ghost use Rattle.stop_words.specs.Replies.{entry_of, claim_of, is_stop, is_inside, is_done, Answers};
+    ghost use Rattle.stop_words.specs.Replies.{entry_of, claim_of, is_stop, is_inside, is_done, after_resume, after_enter, after_claim, Answers};
 
     /// Runs again after having been parked, unless a stop stands in the thread's own word.
     ///
@@ -32,6 +32,7 @@ impl<P: Owned> StopWords<P> {
         requires seat { IsSeatOf seat.old self.now }
         requires place { (view_of seat.old).place ≡ Place.Parked }
         ensures seat { IsSeatOf seat.new self.now × (is_out seat.new ≡ is_out seat.old) }
+        ensures place { ((view_of seat.new).thread ≡ (view_of seat.old).thread) × ((view_of seat.new).place ≡ after_resume result) }
         ensures step { Did WordStep.Resume seat.old seat.new }
         ensures word { IsWordAt Place.Parked (view_of seat.new).found }
         ensures answer { Answers P.owner_of (view_of seat.new) result }
@@ -70,6 +71,7 @@ impl<P: Owned> StopWords<P> {
         requires seat { IsSeatOf seat.old self.now }
         requires place { (view_of seat.old).place ≡ Place.Outside }
         ensures seat { IsSeatOf seat.new self.now × (is_out seat.new ≡ is_out seat.old) }
+        ensures place { ((view_of seat.new).thread ≡ (view_of seat.old).thread) × ((view_of seat.new).place ≡ after_enter result) }
         ensures step { Did WordStep.Enter seat.old seat.new }
         ensures word { IsWordAt Place.Outside (view_of seat.new).found }
         ensures answer { result ≡ entry_of (answer WordStep.Enter (view_of seat.new).found) }
@@ -93,6 +95,7 @@ impl<P: Owned> StopWords<P> {
         requires seat { IsSeatOf seat.old self.now }
         requires place { (view_of seat.old).place ≡ Place.Inside }
         ensures seat { IsSeatOf seat.new self.now × (is_out seat.new ≡ is_out seat.old) }
+        ensures place { ((view_of seat.new).thread ≡ (view_of seat.old).thread) × ((view_of seat.new).place ≡ Place.Outside) }
         ensures step { Did WordStep.Leave seat.old seat.new }
         ensures word { IsWordAt Place.Inside (view_of seat.new).found }
         ensures answer { result ≡ is_stop (answer WordStep.Leave (view_of seat.new).found) }
@@ -113,6 +116,7 @@ impl<P: Owned> StopWords<P> {
         requires place { (view_of seat.old).place ≡ Place.Outside }
         requires owner { P.owner_of parcel ≡ (view_of seat.old).thread }
         ensures seat { IsSeatOf seat.new self.now × (is_out seat.new ≡ is_out seat.old) }
+        ensures place { ((view_of seat.new).thread ≡ (view_of seat.old).thread) × ((view_of seat.new).place ≡ Place.Parked) }
         ensures step { Did WordStep.Park seat.old seat.new }
         ensures word { IsWordAt Place.Outside (view_of seat.new).found }
     {
@@ -145,6 +149,7 @@ impl<P: Owned> StopWords<P> {
         requires seat { IsSeatOf seat.old self.now }
         requires place { (view_of seat.old).place ≡ Place.Outside }
         ensures seat { IsSeatOf seat.new self.now × (is_out seat.new ≡ is_out seat.old) }
+        ensures place { ((view_of seat.new).thread ≡ (view_of seat.old).thread) × ((view_of seat.new).place ≡ after_claim result) }
         ensures step { Did WordStep.Claim seat.old seat.new }
         ensures word { ((view_of seat.new).found ≤ threads_of self.now) × ((view_of seat.new).found ≢ suc (view_of seat.old).thread) }
         ensures answer { result ≡ claim_of (answer WordStep.Claim (view_of seat.new).found) }
@@ -170,6 +175,8 @@ impl<P: Owned> StopWords<P> {
         requires place { (view_of seat.old).place ≡ Place.Holding }
         requires other { (other < threads_of self.now) × (other ≢ (view_of seat.old).thread) }
         ensures seat { IsSeatOf seat.new self.now × (is_out seat.new ≡ is_out seat.old) }
+        ensures place { ((view_of seat.new).thread ≡ (view_of seat.old).thread) × ((view_of seat.new).place ≡ Place.Holding) }
+        ensures posted { (view_of seat.new).posted ≡ other ∷ (view_of seat.old).posted }
         ensures step { Did (WordStep.Post other) seat.old seat.new }
         ensures word { IsWord (view_of seat.new).found }
         ensures answer { result ≡ is_inside (answer (WordStep.Post other) (view_of seat.new).found) }
@@ -191,6 +198,9 @@ impl<P: Owned> StopWords<P> {
         requires place { (view_of seat.old).place ≡ Place.Holding }
         requires other { (other < threads_of self.now) × (is_in other (view_of seat.old).posted ≡ true) }
         ensures seat { IsSeatOf seat.new self.now × (is_out seat.new ≡ is_out seat.old) }
+        ensures place { ((view_of seat.new).thread ≡ (view_of seat.old).thread) × ((view_of seat.new).place ≡ Place.Holding) }
+        ensures posted { (view_of seat.new).posted ≡ (view_of seat.old).posted }
+        ensures seen { result ≡ true → is_in other (view_of seat.new).seen ≡ true }
         ensures step { Did (WordStep.Look other) seat.old seat.new }
         ensures word { IsWord (view_of seat.new).found }
         ensures answer { result ≡ is_done (answer (WordStep.Look other) (view_of seat.new).found) }

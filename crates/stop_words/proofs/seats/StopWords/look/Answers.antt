@@ -1,7 +1,8 @@
-use Rattle.std.proofs.Common.{◌≡◌, rules, suc, ap, sym, subst, ◌∙◌, arith}
+use Rattle.std.proofs.Common.{◌≡◌, true, rules, suc, ap, sym, subst, ◌∙◌, arith}
 use Rattle.atomic_table.specs.Seated.{TableId}
 use Rattle.heap_terms.specs.declared.steps.WordStep
 use Rattle.stop_words.proofs.Replying.{did, found_word, done_test, inside_test}
+use Rattle.stop_words.proofs.Looking.{one_look, found_parked}
 use Rattle.stop_words.proofs.Moves.{looks}
 use Rattle.stop_words.proofs.SeatFacts.{Facts, after_look, hand_before_look}
 use Rattle.stop_words.proofs.seats.StopWords.look.Goals as goal
@@ -37,3 +38,23 @@ returns-clause-word g c = let l = c.load-found in let p = l.ensures.2 c.args.oth
 
 pub returns-clause-answer : goal.returns-clause-answer
 returns-clause-answer g c = let l = c.load-found in let p = l.ensures.2 c.args.other c.word_index-word.ensures in done_test c.args.other l.result c.args.seat.now.seat.me.0 l.new.seat.me.0 p.0
+
+pub returns-clause-place : goal.returns-clause-place
+returns-clause-place g c =
+    let l = c.load-found in
+    let p = l.ensures.2 c.args.other c.word_index-word.ensures in
+    let o = one_look c.args.other c.args.seat.now.seat.me.0 l.new.seat.me.0 (did (WordStep.TheVariants.Look c.args.other) l.result c.args.seat.now.seat.me.0 l.new.seat.me.0 p.0) in
+    (o.looked.thread, o.looked.place ∙ c.requires.place)
+
+pub returns-clause-posted : goal.returns-clause-posted
+returns-clause-posted g c =
+    let l = c.load-found in
+    let p = l.ensures.2 c.args.other c.word_index-word.ensures in
+    (one_look c.args.other c.args.seat.now.seat.me.0 l.new.seat.me.0 (did (WordStep.TheVariants.Look c.args.other) l.result c.args.seat.now.seat.me.0 l.new.seat.me.0 p.0)).looked.posted
+
+pub returns-clause-seen : goal.returns-clause-seen
+returns-clause-seen g c = λ e.
+    let l = c.load-found in
+    let p = l.ensures.2 c.args.other c.word_index-word.ensures in
+    let o = one_look c.args.other c.args.seat.now.seat.me.0 l.new.seat.me.0 (did (WordStep.TheVariants.Look c.args.other) l.result c.args.seat.now.seat.me.0 l.new.seat.me.0 p.0) in
+    o.seen (found_parked c.args.other l.new.seat.me.0 true (sym e ∙ done_test c.args.other l.result c.args.seat.now.seat.me.0 l.new.seat.me.0 p.0))

@@ -2,6 +2,7 @@ use Rattle.std.proofs.Common.{◌≡◌, rules, suc, ap, sym, ◌∙◌, arith}
 use Rattle.atomic_table.specs.Seated.{TableId}
 use Rattle.heap_terms.specs.declared.steps.WordStep
 use Rattle.stop_words.proofs.Replying.{did, found_word, done_test, inside_test}
+use Rattle.stop_words.specs.declared.view.View.{View}
 use Rattle.stop_words.proofs.Moves.{posts}
 use Rattle.stop_words.proofs.SeatFacts.{Facts, after_post}
 use Rattle.stop_words.proofs.seats.StopWords.post.Goals as goal
@@ -31,3 +32,11 @@ returns-clause-word g c = let l = c.fetch_or-found in let p = l.ensures.2 c.args
 
 pub returns-clause-answer : goal.returns-clause-answer
 returns-clause-answer g c = let l = c.fetch_or-found in let p = l.ensures.2 c.args.other c.word_index-word.ensures in inside_test c.args.other l.result c.args.seat.now.seat.me.0 l.new.seat.me.0 p.0
+
+pub returns-clause-place : goal.returns-clause-place
+returns-clause-place g c =
+    let p = c.fetch_or-found.ensures.2 c.args.other c.word_index-word.ensures in
+    (ap (λ (v : View). v.thread) p.0, ap (λ (v : View). v.place) p.0 ∙ c.requires.place)
+
+pub returns-clause-posted : goal.returns-clause-posted
+returns-clause-posted g c = let p = c.fetch_or-found.ensures.2 c.args.other c.word_index-word.ensures in ap (λ (v : View). v.posted) p.0
