@@ -8,6 +8,8 @@ mod seats;
 mod steps;
 mod table;
 pub mod view;
+#[cfg(test)]
+mod worker;
 
 pub use gather::{Gathered, NotYet};
 pub use replies::{Claim, Entry, Resumed};
