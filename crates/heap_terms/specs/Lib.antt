@@ -21,3 +21,4 @@ pub mod Laws
 pub mod Fields
 pub mod Grammar
 pub mod Reading
+pub mod WordMachine

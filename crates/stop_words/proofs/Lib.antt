@@ -1,0 +1,12 @@
+pub mod Basics
+pub mod Rules
+pub mod Acts
+pub mod Start
+pub mod Moves
+pub mod SeatFacts
+pub mod Replying
+pub mod Seating
+pub mod Closing
+pub mod Looking
+pub mod Handing
+pub mod Releasing

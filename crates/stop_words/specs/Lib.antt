@@ -1,0 +1,12 @@
+pub mod Places
+pub mod Views
+pub mod Owners
+pub mod Hands
+pub mod Rule
+pub mod Plays
+pub mod Seats
+pub mod Replies
+pub mod Slots
+pub mod Gathers
+pub mod Looks
+pub mod Lending
