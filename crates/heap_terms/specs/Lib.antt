@@ -22,3 +22,4 @@ pub mod Fields
 pub mod Grammar
 pub mod Reading
 pub mod WordMachine
+pub mod Schedules

@@ -1,0 +1,4 @@
+pub mod Ready
+pub mod Laws
+pub mod Turning
+pub mod Whole

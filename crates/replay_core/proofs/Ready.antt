@@ -1,0 +1,70 @@
+-- The parcels of a machine: at first, and after a turn of one thread.
+use Rattle.std.proofs.Common.{◌≡◌, ℕ, ◌<◌, List, [], length, refl, sym, ◌∙◌, subst, ap, inl, inr, get_or, set, Result, Ok, Err}
+use Rattle.std.proofs.lemmas.Bool.{cases_eq}
+use Rattle.std.proofs.lemmas.List.{get_or-set_same, get_or-set_other, length-set}
+use Rattle.std.specs.Prelude.{IfOk, OnErr}
+use Rattle.heap_terms.specs.declared.faults.Memory.{Memory}
+use Rattle.heap_terms.specs.declared.events.Event.{Event}
+use Rattle.heap_terms.specs.declared.programs.Program.{Program}
+use Rattle.heap_terms.specs.Heap.{start}
+use Rattle.heap_terms.specs.Histories.{replay}
+use Rattle.heap_terms.proofs.Threading.{start_thread}
+use Rattle.lisp_heap.specs.Agreement.{Agrees, AreFresh, OthersAgree}
+use Rattle.lisp_heap.specs.Parcels.{ParcelView, empty_parcel}
+use Rattle.lisp_heap.specs.View.{View, heap_of}
+use Rattle.replay_core.specs.declared.machine.Stepped.{Stepped}
+use Rattle.replay_core.specs.declared.machine.Stepped.TheVariants.{Word, Happened, Waits, Ended}
+use Rattle.replay_core.specs.Parcels.{AreReady}
+use Rattle.replay_core.specs.Stepping.{Steps}
+
+-- a turn keeps the program
+pub Steps-program : (t : ℕ) (old new : View) (s : Stepped) → Steps t old new s → new.program ≡ old.program
+Steps-program t old new (Word line) h = absurd h
+Steps-program t old new Happened h = h.program
+Steps-program t old new Waits h = absurd h
+Steps-program t old new Ended h = ap (λ (w : View). w.program) h.1
+
+pub turn-program : (t : ℕ) (old new : View) (r : Result Stepped Memory) → IfOk r (Steps t old new) → OnErr r (new ≡ old) →
+    new.program ≡ old.program
+turn-program t old new (Ok s) h k = Steps-program t old new s h
+turn-program t old new (Err e) h k = ap (λ (w : View). w.program) k
+
+-- the parcel of the thread that had the turn is written back, and the others still agree
+pub ready_after : (old new : View) (ps : List ParcelView) (t : ℕ) (q : ParcelView) → AreReady old ps → t < length ps →
+    new.program ≡ old.program → q.owner ≡ t → Agrees (heap_of new) q → OthersAgree (heap_of old) (heap_of new) t →
+    AreReady new (set ps t q)
+ready_after old new ps t q ready inside program owner agrees others =
+    record {
+      count = length-set ps t q ∙ ready.count ∙ sym (ap (λ (p : Program). length p.threads) program);
+      owners = λ u d below. elim (cases_eq u t) [
+        | inl e ↦ at_own (λ (x : ParcelView). x.owner ≡ u) u d e (owner ∙ sym e)
+        | inr ne ↦ (let old_owner = ready.owners u d (rw (← length-set ps t q) below) in
+            subst (λ (x : ParcelView). x.owner ≡ u) (sym (get_or-set_other ps t u q d ne)) old_owner)
+      ];
+      agree = λ u d below. elim (cases_eq u t) [
+        | inl e ↦ at_own (λ (x : ParcelView). Agrees (heap_of new) x) u d e agrees
+        | inr ne ↦ (let old_below : u < length ps = rw (← length-set ps t q) below in
+            let o = ready.owners u d old_below in
+            subst (λ (x : ParcelView). Agrees (heap_of new) x) (sym (get_or-set_other ps t u q d ne))
+            (others (get_or ps u d) (λ same. ne (sym o ∙ same)) (ready.agree u d old_below)))
+      ];
+    }
+  where
+    at_own : (P : ParcelView → Type 0) (u : ℕ) (d : ParcelView) → u ≡ t → P q → P (get_or (set ps t q) u d)
+    at_own P u d e h = subst (λ (k : ℕ). P (get_or (set ps t q) k d)) (sym e) (subst P (sym (get_or-set_same ps t q d inside)) h)
+
+-- before the first event a parcel without regions agrees
+empty_agrees : (p : Program) (t : ℕ) → Agrees (start p) (empty_parcel t)
+empty_agrees p t =
+    let s = start_thread p t in
+    record { cons = rw s.2 refl; boxed = rw s.2 refl; unboxed = rw s.2 refl; run = rw s.2 refl }
+
+-- the parcels of a new World
+pub fresh_ready : (w : View) (ps : List ParcelView) → w.history ≡ [] → AreFresh ps (length w.program.threads) → AreReady w ps
+fresh_ready w ps none fresh =
+    record {
+      count = fresh.count;
+      owners = λ t d below. ap (λ (q : ParcelView). q.owner) (fresh.each t d (rw fresh.count at below));
+      agree = λ t d below. subst (λ (q : ParcelView). Agrees (heap_of w) q) (sym (fresh.each t d (rw fresh.count at below)))
+          (subst (λ (h : List Event). Agrees (replay w.program h) (empty_parcel t)) (sym none) (empty_agrees w.program t));
+    }

@@ -1,0 +1,66 @@
+//! Many turns: those of the schedule, and rounds of all threads until each has ended.
+
+ghost use Rattle.std.specs.Prelude.{◌≡◌, ◌<◌, ◌^◌, length, OnOk, IfOk, map};
+ghost use Rattle.std.specs.List.{range_with_len};
+ghost use Rattle.replay_core.specs.Runs.{Turned, WasBusy, RoundsDone};
+
+use crate::machine::Machine;
+use heap_terms::{Memory, ReplayLine, Seq};
+use std::alloc::Global;
+
+/// The lines of a run.
+pub type Lines = Seq<ReplayLine>;
+
+/// The turns of the schedule.
+pub fn schedule_turns(machine: &mut Machine) -> Result<(), Memory>
+    ensures { OnOk result (Turned machine.old.program.schedule machine.old machine.new) }
+{
+    for i in 0..machine.world().program().schedule.len() {
+        let t = machine.world().program().schedule.at(i);
+        let _stepped = machine.step(t)?;
+    }
+    Ok(())
+}
+
+/// One turn of each thread: 0, 1, and so on.
+fn each_in_turn(machine: &mut Machine) -> Result<(), Memory>
+    ensures { OnOk result
+        (Turned (range_with_len 0 (length machine.old.program.threads)) machine.old machine.new) }
+{
+    for t in 0..machine.world().threads() {
+        let _stepped = machine.step(t)?;
+    }
+    Ok(())
+}
+
+/// One round of all threads, and whether something happened in it.
+fn round(machine: &mut Machine) -> Result<bool, Memory>
+    ensures turned { OnOk result
+        (Turned (range_with_len 0 (length machine.old.program.threads)) machine.old machine.new) }
+    ensures busy { IfOk result (WasBusy machine.old machine.new) }
+    ensures short { OnOk result (length machine.new.history < 2 ^ 32) }
+{
+    let before = machine.world().history().len();
+    each_in_turn(machine)?;
+    Ok(machine.world().history().len() > before)
+}
+
+/// Rounds of all threads until each has ended.
+pub fn rounds(machine: &mut Machine) -> Result<(), Memory>
+    ensures { OnOk result (RoundsDone machine.old machine.new) }
+{
+    while round(machine)? {}
+    Ok(())
+}
+
+/// The numbers of so many events, as lines.
+pub fn event_lines(alloc: Global, events: u32) -> Result<Lines, Memory>
+    ensures { IfOk result
+        (λ lines. lines ≡ map (λ number. ReplayLine.Event number) (range_with_len 0 events)) }
+{
+    let mut lines = Seq::new(alloc);
+    for number in 0..events {
+        lines.push(ReplayLine::Event(number))?;
+    }
+    Ok(lines)
+}

@@ -1,0 +1,43 @@
+//! A whole run of a program.
+
+ghost use Rattle.std.specs.Prelude.{◌≡◌, IfOk, OnOk};
+ghost use Rattle.heap_terms.specs.Schedules.{IsRun};
+ghost use Rattle.heap_terms.specs.Valid.{IsValid};
+ghost use Rattle.replay_core.specs.Runs.{RunsWhole};
+
+use crate::machine::Machine;
+use crate::rounds::{Lines, event_lines, rounds, schedule_turns};
+use heap_terms::{Memory, Program};
+use lisp_heap::World;
+use std::alloc::Global;
+
+/// A run of a program: the World at its end, and its lines.
+#[derive(Drop)]
+pub struct Replay {
+    pub world: World,
+    /// The numbers of the events, from 0 on, until the word machine is built.
+    pub lines: Lines,
+}
+
+/// Runs a valid program: the turns of its schedule, and then the threads 0, 1 and so on in turn,
+/// again and again, until all have ended. That the schedule decides is this project's own.
+pub fn run_schedule(alloc: Global, program: Program) -> Result<Replay, Memory>
+    requires { IsValid program }
+    ensures program { IfOk result (λ replay. replay.world.program ≡ program) }
+    ensures run { IfOk result (λ replay. IsRun program replay.lines replay.world.history) }
+{
+    let mut machine = Machine::new(alloc, program)?;
+    let ran = run(&mut machine);
+    let world = machine.into_world();
+    ran?;
+    let lines = event_lines(alloc, world.history().len() as u32)?;
+    Ok(Replay { world, lines })
+}
+
+/// All turns of a run.
+fn run(machine: &mut Machine) -> Result<(), Memory>
+    ensures { OnOk result (RunsWhole machine.old machine.new) }
+{
+    schedule_turns(machine)?;
+    rounds(machine)
+}
