@@ -29,6 +29,7 @@ abbrev pub next_for : NamedHeap → ℕ → Wish → Next
 next_for a t Nothing = nexts.Simple
 next_for a t (Make kind n seed) = if has_room a t kind (size_of kind n) then nexts.Build kind n seed else nexts.Open
 
+-- what a thread does for the command at its place; it ends where there is none
 abbrev pub next_command : NamedHeap → ℕ → Option Command → Next
 next_command a t None = nexts.End
 next_command a t (Some c) = next_for a t (wish_of c)
@@ -37,6 +38,7 @@ next_command a t (Some c) = next_for a t (wish_of c)
 abbrev pub due : Thread → Option ℕ
 due th = if th.inhibits == 0 then th.owed else None
 
+-- a collection that is due comes before anything else
 abbrev pub next_unless_due : Option ℕ → Next → Next
 next_unless_due None otherwise = otherwise
 next_unless_due (Some last) otherwise = nexts.Collect last

@@ -22,6 +22,7 @@ pub record Object : Type 0 where
   pub place : ℕ
   pub contents : Contents
 
+-- the kind of an object, by what it holds
 abbrev pub kind_of : Contents → Kind
 kind_of (ConsOf a b) = kinds.Cons
 kind_of (VectorOf vs) = kinds.Vector

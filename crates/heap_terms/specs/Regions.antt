@@ -24,6 +24,7 @@ pub data Wish : Type 0 where
   Nothing : Wish
   Make : Kind → ℕ → ℕ → Wish
 
+-- what a command wants made, with the payload and the seed that this project gives it
 abbrev pub wish_of : Command → Wish
 wish_of (commands.NewCons d a b) = Make kinds.Cons 2 0
 wish_of (commands.NewVector d n) = Make kinds.Vector n 0

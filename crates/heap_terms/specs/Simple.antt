@@ -35,6 +35,7 @@ with_field (WordsOf ws) i v = WordsOf ws
 with_field (WeakTo w) i v = WeakTo w
 with_field (TableOf w b pairs) i v = TableOf w b pairs
 
+-- an object with one field changed; one that is gone stays gone
 abbrev pub object_with_field : Option Object → ℕ → Value → Option Object
 object_with_field None i v = None
 object_with_field (Some o) i v = Some (record o { contents = with_field o.contents i v })

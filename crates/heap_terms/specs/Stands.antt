@@ -16,4 +16,4 @@ pub record WordsStand (a : NamedHeap) (words : List ℕ) : Type 0 where
   pub long : length words ≡ page_words * length a.pages
   pub spelled : (name : ℕ) → IfSome (object_at a.objects name) (λ o. AreAt words o.place (spelling a.objects o.contents))
   pub fillers : (page i : ℕ) → i < fill_of (entry_at a.pages page) → ¬ IsOwned a.objects (page_words * page + i) →
-    slice_index words (page_words * page + i) ≡ filler_word
+      slice_index words (page_words * page + i) ≡ filler_word

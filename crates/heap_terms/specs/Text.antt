@@ -42,9 +42,11 @@ cell_text (cells.Stack i) = codes "s" ++ decimal i
 cell_text (cells.Exact i) = codes "b" ++ decimal i
 cell_text (cells.Shared i) = codes "g" ++ decimal i
 
+-- a cell as a field
 abbrev pub cell_field : Cell → List ℕ
 cell_field c = field (cell_text c)
 
+-- a raw cell, `r` and its number, as a field
 abbrev pub raw_field : Raw → List ℕ
 raw_field r = field (codes "r" ++ decimal r.0)
 
@@ -76,6 +78,7 @@ value_text values.Nil = codes "nil"
 value_text values.Unbound = codes "unbound"
 value_text (values.Ref name) = name_text name
 
+-- the word of a weakness
 abbrev pub weakness_text : Weakness → List ℕ
 weakness_text weaknesses.Strong = codes "strong"
 weakness_text weaknesses.Key = codes "key"
@@ -124,6 +127,7 @@ fields_text (Stat g) = number_field g
 abbrev pub command_text : Command → List ℕ
 command_text c = name_of c ++ fields_text c
 
+-- the word of a refusal
 abbrev pub refusal_text : Refusal → List ℕ
 refusal_text NotType = codes "!type"
 refusal_text OutOfRange = codes "!range"
@@ -132,6 +136,7 @@ refusal_text Exhausted = codes "!exhausted"
 refusal_text Nothing = codes "!empty"
 refusal_text PinsFull = codes "!pins"
 
+-- the word of a page type
 abbrev pub type_text : PageType → List ℕ
 type_text types.Cons = codes "cons"
 type_text types.Boxed = codes "boxed"
@@ -142,6 +147,7 @@ abbrev pub item_text : Option ℕ → ℕ → ℕ → List ℕ
 item_text (Some name) index count = name_text name ++ index_text index
 item_text None index count = codes "~" ++ decimal count ++ index_text index
 
+-- a page: `free`, what lies on a small region's page, or the object of a large one's
 abbrev pub page_text : PageView → List ℕ
 page_text views.Free = codes "free"
 page_text (views.Small ty g fill items) =
@@ -150,6 +156,7 @@ page_text (views.Small ty g fill items) =
 page_text (views.Large ty g pages name index) =
     type_text ty ++ field (codes "g" ++ decimal g) ++ codes " large" ++ number_field pages ++ field (name_text name ++ index_text index)
 
+-- an answer, by the form that its command's answers have
 abbrev pub answer_text : Answer → List ℕ
 answer_text answers.Done = codes "ok"
 answer_text (answers.Val v) = value_text v

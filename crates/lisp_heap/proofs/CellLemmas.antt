@@ -22,29 +22,33 @@ CellsStand-with_thread a t th v stack exact s = record {
   exact_length = s.exact_length ∙ ap (λ n. 16 * n) (sym (length-set a.threads t th));
   shared_length = s.shared_length;
   stack = λ u i hu hi. (
-    let lt : u < length a.threads = subst (λ (n : ℕ). u < n) (length-set a.threads t th) hu in
-    s.stack u i lt hi ∙ ap (λ (xs : List Value). word_of a.objects (get_or xs i zero_value)) (sym (thread_part (λ (x : Thread). x.stack) a t u th stack lt)));
+      let lt : u < length a.threads = subst (λ (n : ℕ). u < n) (length-set a.threads t th) hu in
+      s.stack u i lt hi ∙ ap (λ (xs : List Value). word_of a.objects (get_or xs i zero_value)) (sym (thread_part (λ (x : Thread). x.stack) a t u th stack lt)));
   exact = λ u i hu hi. (
-    let lt : u < length a.threads = subst (λ (n : ℕ). u < n) (length-set a.threads t th) hu in
-    s.exact u i lt hi ∙ ap (λ (xs : List Value). word_of a.objects (get_or xs i zero_value)) (sym (thread_part (λ (x : Thread). x.exact) a t u th exact lt)));
-  shared = s.shared }
+      let lt : u < length a.threads = subst (λ (n : ℕ). u < n) (length-set a.threads t th) hu in
+      s.exact u i lt hi ∙ ap (λ (xs : List Value). word_of a.objects (get_or xs i zero_value)) (sym (thread_part (λ (x : Thread). x.exact) a t u th exact lt)));
+  shared = s.shared;
+}
 
 -- a change of objects under which the words of the values in cells stay
 pub record KeepsWords (a : NamedHeap) (objects : List (Option Object)) : Type 0 where
   pub stack : (t i : ℕ) → t < length a.threads → i < 16 →
-    word_of objects (slice_index_or (thread_at a t).stack i zero_value) ≡ word_of a.objects (slice_index_or (thread_at a t).stack i zero_value)
+      word_of objects (slice_index_or (thread_at a t).stack i zero_value) ≡ word_of a.objects (slice_index_or (thread_at a t).stack i zero_value)
   pub exact : (t i : ℕ) → t < length a.threads → i < 16 →
-    word_of objects (slice_index_or (thread_at a t).exact i zero_value) ≡ word_of a.objects (slice_index_or (thread_at a t).exact i zero_value)
+      word_of objects (slice_index_or (thread_at a t).exact i zero_value) ≡ word_of a.objects (slice_index_or (thread_at a t).exact i zero_value)
   pub shared : (i : ℕ) → i < 16 →
-    word_of objects (slice_index_or a.shared i zero_value) ≡ word_of a.objects (slice_index_or a.shared i zero_value)
+      word_of objects (slice_index_or a.shared i zero_value) ≡ word_of a.objects (slice_index_or a.shared i zero_value)
 
 pub CellsStand-objects : (a : NamedHeap) (objects : List (Option Object)) (v : CellsView) → KeepsWords a objects →
     CellsStand a v → CellsStand (record a { objects = objects }) v
 CellsStand-objects a objects v keeps s = record {
-  stack_length = s.stack_length; exact_length = s.exact_length; shared_length = s.shared_length;
+  stack_length = s.stack_length;
+  exact_length = s.exact_length;
+  shared_length = s.shared_length;
   stack = λ t i ht hi. s.stack t i ht hi ∙ sym (keeps.stack t i ht hi);
   exact = λ t i ht hi. s.exact t i ht hi ∙ sym (keeps.exact t i ht hi);
-  shared = λ i hi. s.shared i hi ∙ sym (keeps.shared i hi) }
+  shared = λ i hi. s.shared i hi ∙ sym (keeps.shared i hi);
+}
 
 -- what one list of cells says after a write, where cell i of thread t got a value
 at_spot : (objects : List (Option Object)) (words : List ℕ) (values : List Value) (t i u j word : ℕ) (v : Value) → i < 16 → j < 16 →
@@ -52,16 +56,16 @@ at_spot : (objects : List (Option Object)) (words : List ℕ) (values : List Val
     (slice_index words (spot u j) ≡ word_of objects (slice_index_or values j zero_value)) → u ≡ t →
     slice_index (set words (spot t i) word) (spot u j) ≡ word_of objects (slice_index_or (set values i v) j zero_value)
 at_spot objects words values t i u j word v hi hj inside below is before same = elim (cases_eq j i) [
-      inl e ↦ (
-        let where_it_is : spot u j ≡ spot t i = omega arith in
-        subst (λ (k : ℕ). get_or (set words (spot t i) word) k 0 ≡ word_of objects (get_or (set values i v) j zero_value)) (sym where_it_is)
-          (get_or-set_same words (spot t i) word 0 inside ∙ is
-            ∙ ap (word_of objects) (sym (subst (λ (k : ℕ). get_or (set values i v) k zero_value ≡ v) (sym e) (get_or-set_same values i v zero_value below)))))
-    | inr n ↦ (
-        let apart : spot u j ≢ spot t i = λ h. n (omega arith) in
-        get_or-set_other words (spot t i) (spot u j) word 0 apart ∙ before
-          ∙ ap (word_of objects) (sym (get_or-set_other values i j v zero_value n)))
-    ]
+  | inl e ↦ (
+      let where_it_is : spot u j ≡ spot t i = omega arith in
+      subst (λ (k : ℕ). get_or (set words (spot t i) word) k 0 ≡ word_of objects (get_or (set values i v) j zero_value)) (sym where_it_is)
+      (get_or-set_same words (spot t i) word 0 inside ∙ is
+      ∙ ap (word_of objects) (sym (subst (λ (k : ℕ). get_or (set values i v) k zero_value ≡ v) (sym e) (get_or-set_same values i v zero_value below)))))
+  | inr n ↦ (
+      let apart : spot u j ≢ spot t i = λ h. n (omega arith) in
+      get_or-set_other words (spot t i) (spot u j) word 0 apart ∙ before
+      ∙ ap (word_of objects) (sym (get_or-set_other values i j v zero_value n)))
+]
 
 -- a value is put into a cell, and its word into the words
 pub CellsStand-with_cell : (a : NamedHeap) (t : ℕ) (cell : Cell) (value : Value) (word : ℕ) (v : CellsView) → IsCell cell →
@@ -74,25 +78,26 @@ CellsStand-with_cell a t (Stack i) value word v hi ht stack_long exact_long shar
       exact_length = s.exact_length ∙ ap (λ n. 16 * n) (sym (length-set a.threads t th));
       shared_length = s.shared_length;
       stack = λ u j hu hj. (
-        let lu : u < length a.threads = subst (λ (n : ℕ). u < n) (length-set a.threads t th) hu in
-        elim (cases_eq u t) [
-          inl e ↦ (
-            let inside : spot t i < length v.stack = omega (arith, s.stack_length) in
-            let below : i < length (thread_at a t).stack = omega arith in
-            let before : slice_index v.stack (spot u j) ≡ word_of a.objects (slice_index_or (thread_at a t).stack j zero_value) =
-              subst (λ (k : ℕ). slice_index v.stack (spot u j) ≡ word_of a.objects (slice_index_or (thread_at a k).stack j zero_value)) e (s.stack u j lu hj) in
-            at_spot a.objects v.stack (thread_at a t).stack t i u j word value hi hj inside below is before e
-              ∙ ap (λ (x : Thread). word_of a.objects (get_or x.stack j zero_value))
+          let lu : u < length a.threads = subst (λ (n : ℕ). u < n) (length-set a.threads t th) hu in
+          elim (cases_eq u t) [
+            | inl e ↦ (
+                let inside : spot t i < length v.stack = omega (arith, s.stack_length) in
+                let below : i < length (thread_at a t).stack = omega arith in
+                let before : slice_index v.stack (spot u j) ≡ word_of a.objects (slice_index_or (thread_at a t).stack j zero_value) =
+                subst (λ (k : ℕ). slice_index v.stack (spot u j) ≡ word_of a.objects (slice_index_or (thread_at a k).stack j zero_value)) e (s.stack u j lu hj) in
+                at_spot a.objects v.stack (thread_at a t).stack t i u j word value hi hj inside below is before e
+                ∙ ap (λ (x : Thread). word_of a.objects (get_or x.stack j zero_value))
                 (sym (subst (λ (k : ℕ). thread_at (with_thread a t th) k ≡ th) (sym e) (thread_at-same a t th ht))))
-        | inr n ↦ (
-            let apart : spot u j ≢ spot t i = λ h. n (omega arith) in
-            get_or-set_other v.stack (spot t i) (spot u j) word 0 apart ∙ s.stack u j lu hj
-              ∙ ap (λ (x : Thread). word_of a.objects (get_or x.stack j zero_value)) (sym (thread_at-other a t u th n)))
-        ]);
+            | inr n ↦ (
+                let apart : spot u j ≢ spot t i = λ h. n (omega arith) in
+                get_or-set_other v.stack (spot t i) (spot u j) word 0 apart ∙ s.stack u j lu hj
+                ∙ ap (λ (x : Thread). word_of a.objects (get_or x.stack j zero_value)) (sym (thread_at-other a t u th n)))
+          ]);
       exact = λ u j hu hj. (
-        let lu : u < length a.threads = subst (λ (n : ℕ). u < n) (length-set a.threads t th) hu in
-        s.exact u j lu hj ∙ ap (λ (xs : List Value). word_of a.objects (get_or xs j zero_value)) (sym (thread_part (λ (x : Thread). x.exact) a t u th refl lu)));
-      shared = s.shared }
+          let lu : u < length a.threads = subst (λ (n : ℕ). u < n) (length-set a.threads t th) hu in
+          s.exact u j lu hj ∙ ap (λ (xs : List Value). word_of a.objects (get_or xs j zero_value)) (sym (thread_part (λ (x : Thread). x.exact) a t u th refl lu)));
+      shared = s.shared;
+    }
 CellsStand-with_cell a t (Exact i) value word v hi ht stack_long exact_long shared_long is s =
     let th : Thread = record (thread_at a t) { exact = set (thread_at a t).exact i value } in
     record {
@@ -100,37 +105,41 @@ CellsStand-with_cell a t (Exact i) value word v hi ht stack_long exact_long shar
       exact_length = length-set v.exact (spot t i) word ∙ s.exact_length ∙ ap (λ n. 16 * n) (sym (length-set a.threads t th));
       shared_length = s.shared_length;
       stack = λ u j hu hj. (
-        let lu : u < length a.threads = subst (λ (n : ℕ). u < n) (length-set a.threads t th) hu in
-        s.stack u j lu hj ∙ ap (λ (xs : List Value). word_of a.objects (get_or xs j zero_value)) (sym (thread_part (λ (x : Thread). x.stack) a t u th refl lu)));
+          let lu : u < length a.threads = subst (λ (n : ℕ). u < n) (length-set a.threads t th) hu in
+          s.stack u j lu hj ∙ ap (λ (xs : List Value). word_of a.objects (get_or xs j zero_value)) (sym (thread_part (λ (x : Thread). x.stack) a t u th refl lu)));
       exact = λ u j hu hj. (
-        let lu : u < length a.threads = subst (λ (n : ℕ). u < n) (length-set a.threads t th) hu in
-        elim (cases_eq u t) [
-          inl e ↦ (
-            let inside : spot t i < length v.exact = omega (arith, s.exact_length) in
-            let below : i < length (thread_at a t).exact = omega arith in
-            let before : slice_index v.exact (spot u j) ≡ word_of a.objects (slice_index_or (thread_at a t).exact j zero_value) =
-              subst (λ (k : ℕ). slice_index v.exact (spot u j) ≡ word_of a.objects (slice_index_or (thread_at a k).exact j zero_value)) e (s.exact u j lu hj) in
-            at_spot a.objects v.exact (thread_at a t).exact t i u j word value hi hj inside below is before e
-              ∙ ap (λ (x : Thread). word_of a.objects (get_or x.exact j zero_value))
+          let lu : u < length a.threads = subst (λ (n : ℕ). u < n) (length-set a.threads t th) hu in
+          elim (cases_eq u t) [
+            | inl e ↦ (
+                let inside : spot t i < length v.exact = omega (arith, s.exact_length) in
+                let below : i < length (thread_at a t).exact = omega arith in
+                let before : slice_index v.exact (spot u j) ≡ word_of a.objects (slice_index_or (thread_at a t).exact j zero_value) =
+                subst (λ (k : ℕ). slice_index v.exact (spot u j) ≡ word_of a.objects (slice_index_or (thread_at a k).exact j zero_value)) e (s.exact u j lu hj) in
+                at_spot a.objects v.exact (thread_at a t).exact t i u j word value hi hj inside below is before e
+                ∙ ap (λ (x : Thread). word_of a.objects (get_or x.exact j zero_value))
                 (sym (subst (λ (k : ℕ). thread_at (with_thread a t th) k ≡ th) (sym e) (thread_at-same a t th ht))))
-        | inr n ↦ (
-            let apart : spot u j ≢ spot t i = λ h. n (omega arith) in
-            get_or-set_other v.exact (spot t i) (spot u j) word 0 apart ∙ s.exact u j lu hj
-              ∙ ap (λ (x : Thread). word_of a.objects (get_or x.exact j zero_value)) (sym (thread_at-other a t u th n)))
-        ]);
-      shared = s.shared }
+            | inr n ↦ (
+                let apart : spot u j ≢ spot t i = λ h. n (omega arith) in
+                get_or-set_other v.exact (spot t i) (spot u j) word 0 apart ∙ s.exact u j lu hj
+                ∙ ap (λ (x : Thread). word_of a.objects (get_or x.exact j zero_value)) (sym (thread_at-other a t u th n)))
+          ]);
+      shared = s.shared;
+    }
 CellsStand-with_cell a t (Shared i) value word v hi ht stack_long exact_long shared_long is s = record {
-  stack_length = s.stack_length; exact_length = s.exact_length;
+  stack_length = s.stack_length;
+  exact_length = s.exact_length;
   shared_length = length-set v.shared i word ∙ s.shared_length;
-  stack = s.stack; exact = s.exact;
+  stack = s.stack;
+  exact = s.exact;
   shared = λ j hj. elim (cases_eq j i) [
-      inl e ↦ (
+    | inl e ↦ (
         let inside : i < length v.shared = omega (arith, s.shared_length) in
         let below : i < length a.shared = omega arith in
         subst (λ (k : ℕ). get_or (set v.shared i word) k 0 ≡ word_of a.objects (get_or (set a.shared i value) k zero_value)) (sym e)
-          (get_or-set_same v.shared i word 0 inside ∙ is ∙ ap (word_of a.objects) (sym (get_or-set_same a.shared i value zero_value below))))
+        (get_or-set_same v.shared i word 0 inside ∙ is ∙ ap (word_of a.objects) (sym (get_or-set_same a.shared i value zero_value below))))
     | inr n ↦ get_or-set_other v.shared i j word 0 n ∙ s.shared j hj ∙ ap (word_of a.objects) (sym (get_or-set_other a.shared i j value zero_value n))
-    ] }
+  ];
+}
 
 -- the word in a cell is that of its value
 pub CellsStand-read : (a : NamedHeap) (t : ℕ) (cell : Cell) (v : CellsView) → IsCell cell → t < length a.threads → CellsStand a v →

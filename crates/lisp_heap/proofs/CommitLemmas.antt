@@ -26,7 +26,6 @@ module _ (p : Program) (a b : NamedHeap) (words : List ℕ) (o : Object) (P Q : 
     (conses : AreConses a.objects) (hold : HoldLiving a.objects) (s : WordsStand a words)
     (is : o.contents ≡ ConsOf P Q) (live_P : IsLiving a.objects P) (live_Q : IsLiving a.objects Q)
     (pushed : b.objects ≡ a.objects ++ Some o ∷ []) (paged : length b.pages ≡ length a.pages) (wf : IsWellFormed p b) where
-
   abbrev committed_words : List ℕ
   committed_words = set (set words o.place (word_of a.objects P)) (o.place + 1) (word_of a.objects Q)
 
@@ -37,7 +36,7 @@ module _ (p : Program) (a b : NamedHeap) (words : List ℕ) (o : Object) (P Q : 
   old_there : (name : ℕ) (q : Object) → object_at a.objects name ≡ Some q → object_at b.objects name ≡ Some q
   old_there name q h =
       ap (λ (os : List (Option Object)). object_at os name) pushed
-        ∙ get_or_append_left a.objects (Some o ∷ []) None name (name_below a.objects name (IsSome-from (object_at a.objects name) q h)) ∙ h
+      ∙ get_or_append_left a.objects (Some o ∷ []) None name (name_below a.objects name (IsSome-from (object_at a.objects name) q h)) ∙ h
 
   pub new_apart : (name : ℕ) (q : Object) → object_at a.objects name ≡ Some q → AreApart o q
   new_apart name q h =
@@ -61,11 +60,11 @@ module _ (p : Program) (a b : NamedHeap) (words : List ℕ) (o : Object) (P Q : 
   new_words =
       let differ : o.place ≢ o.place + 1 = λ e. omega arith in
       let first : slice_index committed_words o.place ≡ word_of a.objects P =
-        get_or-set_other (set words o.place (word_of a.objects P)) (o.place + 1) o.place (word_of a.objects Q) 0 differ
-          ∙ get_or-set_same words o.place (word_of a.objects P) 0 (omega (arith, room)) in
+      get_or-set_other (set words o.place (word_of a.objects P)) (o.place + 1) o.place (word_of a.objects Q) 0 differ
+      ∙ get_or-set_same words o.place (word_of a.objects P) 0 (omega (arith, room)) in
       let inside : o.place + 1 < length (set words o.place (word_of a.objects P)) = omega (arith, room, length-set words o.place (word_of a.objects P)) in
       let second : slice_index committed_words (o.place + 1) ≡ word_of a.objects Q =
-        get_or-set_same (set words o.place (word_of a.objects P)) (o.place + 1) (word_of a.objects Q) 0 inside in
+      get_or-set_same (set words o.place (word_of a.objects P)) (o.place + 1) (word_of a.objects Q) 0 inside in
       cons_spelled b.objects committed_words o P Q is (first ∙ sym (word_kept P live_P)) (second ∙ sym (word_kept Q live_Q))
 
   old_words : (name : ℕ) (q : Object) → object_at a.objects name ≡ Some q → AreAt committed_words q.place (spelling b.objects q.contents)
@@ -75,15 +74,15 @@ module _ (p : Program) (a b : NamedHeap) (words : List ℕ) (o : Object) (P Q : 
       let two_here : words_of_object q ≡ 2 = cons_words q (parts.0) (parts.1) (parts.2) in
       let apart = new_apart name q h in
       let beside : (o.place < q.place) ⊎ (q.place + 2 ≤ o.place) =
-        elim apart [ inl l ↦ inl (omega (arith, two_words)) | inr r ↦ inr (omega (arith, two_here)) ] in
+      elim apart [ inl l ↦ inl (omega (arith, two_words)) | inr r ↦ inr (omega (arith, two_here)) ] in
       let beside_second : (o.place + 1 < q.place) ⊎ (q.place + 2 ≤ o.place + 1) =
-        elim apart [ inl l ↦ inl (omega (arith, two_words)) | inr r ↦ inr (omega (arith, two_here)) ] in
+      elim apart [ inl l ↦ inl (omega (arith, two_words)) | inr r ↦ inr (omega (arith, two_here)) ] in
       let kept = outside words q.place o.place (word_of a.objects P) beside in
       let kept_second = outside (set words o.place (word_of a.objects P)) q.place (o.place + 1) (word_of a.objects Q) beside_second in
       let old = cons_at a words name q (parts.0) (parts.1) s h (parts.2) in
       cons_spelled b.objects committed_words q (parts.0) (parts.1) (parts.2)
-        (kept_second.0 ∙ kept.0 ∙ old.0 ∙ sym (word_kept (parts.0) lives.0))
-        (kept_second.1 ∙ kept.1 ∙ old.1 ∙ sym (word_kept (parts.1) lives.1))
+      (kept_second.0 ∙ kept.0 ∙ old.0 ∙ sym (word_kept (parts.0) lives.0))
+      (kept_second.1 ∙ kept.1 ∙ old.1 ∙ sym (word_kept (parts.1) lives.1))
 
   -- what stands under a name of the new heap
   by_name : (P : Object → Type 0) → P o → ((name : ℕ) (q : Object) → object_at a.objects name ≡ Some q → P q) →
@@ -91,17 +90,18 @@ module _ (p : Program) (a b : NamedHeap) (words : List ℕ) (o : Object) (P Q : 
   by_name P new old name q h =
       let there : object_at (a.objects ++ Some o ∷ []) name ≡ Some q = sym (ap (λ (os : List (Option Object)). object_at os name) pushed) ∙ h in
       elim (push_cases a.objects name (Some o) None) [
-        inl kept ↦ old name q (sym kept.1 ∙ there)
-      | inr new_here ↦ (let found : Some q ≡ Some o = sym there ∙ new_here.1 in let same : q ≡ o = cc in subst P (sym same) new)
+        | inl kept ↦ old name q (sym kept.1 ∙ there)
+        | inr new_here ↦ (let found : Some q ≡ Some o = sym there ∙ new_here.1 in let same : q ≡ o = cc in subst P (sym same) new)
       ]
 
   pub WordsStand-commit : WordsStand b committed_words
   WordsStand-commit = record {
     long = length-set (set words o.place (word_of a.objects P)) (o.place + 1) (word_of a.objects Q)
-      ∙ length-set words o.place (word_of a.objects P) ∙ s.long ∙ ap (λ n. page_words * n) (sym paged);
+        ∙ length-set words o.place (word_of a.objects P) ∙ s.long ∙ ap (λ n. page_words * n) (sym paged);
     spelled = λ name. IfSome-from (λ (q : Object). AreAt committed_words q.place (spelling b.objects q.contents)) (object_at b.objects name)
-      (by_name (λ (q : Object). AreAt committed_words q.place (spelling b.objects q.contents)) new_words old_words name);
-    fillers = no_fillers p b committed_words wf }
+        (by_name (λ (q : Object). AreAt committed_words q.place (spelling b.objects q.contents)) new_words old_words name);
+    fillers = no_fillers p b committed_words wf;
+  }
 
   pub LabelsStand-commit : (labels : List ℕ) → LabelsStand a labels → LabelsStand b (set labels (o.place / 2) (length a.objects))
   LabelsStand-commit labels l =
@@ -109,20 +109,21 @@ module _ (p : Program) (a b : NamedHeap) (words : List ℕ) (o : Object) (P Q : 
       record {
         long = length-set labels (o.place / 2) (length a.objects) ∙ l.long ∙ ap (λ n. 256 * n) (sym paged);
         named = λ name. IfSome-from (λ (q : Object). slice_index (set labels (o.place / 2) (length a.objects)) (q.place / 2) ≡ name) (object_at b.objects name)
-          (λ q h.
+            (λ q h.
             let there : object_at (a.objects ++ Some o ∷ []) name ≡ Some q = sym (ap (λ (os : List (Option Object)). object_at os name) pushed) ∙ h in
             elim (push_cases a.objects name (Some o) None) [
-              inl kept ↦ (
-                let before : object_at a.objects name ≡ Some q = sym kept.1 ∙ there in
-                let differ : q.place / 2 ≢ o.place / 2 = labels_apart name q before h in
-                get_or-set_other labels (o.place / 2) (q.place / 2) (length a.objects) 0 differ
+              | inl kept ↦ (
+                  let before : object_at a.objects name ≡ Some q = sym kept.1 ∙ there in
+                  let differ : q.place / 2 ≢ o.place / 2 = labels_apart name q before h in
+                  get_or-set_other labels (o.place / 2) (q.place / 2) (length a.objects) 0 differ
                   ∙ IfSome-at (λ (k : Object). slice_index labels (k.place / 2) ≡ name) (object_at a.objects name) q before (l.named name))
-            | inr new_here ↦ (
-                let found : Some q ≡ Some o = sym there ∙ new_here.1 in
-                let same : q ≡ o = cc in
-                subst (λ (k : Object). slice_index (set labels (o.place / 2) (length a.objects)) (k.place / 2) ≡ name) (sym same)
+              | inr new_here ↦ (
+                  let found : Some q ≡ Some o = sym there ∙ new_here.1 in
+                  let same : q ≡ o = cc in
+                  subst (λ (k : Object). slice_index (set labels (o.place / 2) (length a.objects)) (k.place / 2) ≡ name) (sym same)
                   (get_or-set_same labels (o.place / 2) (length a.objects) 0 here ∙ sym new_here.0))
-            ]) }
+            ]);
+      }
     where
       labels_apart : (name : ℕ) (q : Object) → object_at a.objects name ≡ Some q → object_at b.objects name ≡ Some q → q.place / 2 ≢ o.place / 2
       labels_apart name q before now e =
@@ -130,6 +131,6 @@ module _ (p : Program) (a b : NamedHeap) (words : List ℕ) (o : Object) (P Q : 
           let two_here : words_of_object q ≡ 2 = cons_words q (parts.0) (parts.1) (parts.2) in
           let placed_here = placed_at p b name q wf now in
           elim (new_apart name q before) [
-            inl h ↦ omega (arith, h, two_words, new_placed.even, placed_here.even, e)
-          | inr h ↦ omega (arith, h, two_here, new_placed.even, placed_here.even, e)
+            | inl h ↦ omega (arith, h, two_words, new_placed.even, placed_here.even, e)
+            | inr h ↦ omega (arith, h, two_here, new_placed.even, placed_here.even, e)
           ]

@@ -39,15 +39,19 @@ pub Agrees-beside : (a b : NamedHeap) (q : ParcelView) → (thread_at b q.owner)
 Agrees-beside a b q boxed unboxed run keeps h = record {
   boxed = h.boxed ∙ small_out_same a.pages b.pages (thread_at a q.owner).boxed_page keeps.boxed ∙ ap (option_map (small_out b.pages)) (sym boxed);
   unboxed = h.unboxed ∙ small_out_same a.pages b.pages (thread_at a q.owner).unboxed_page keeps.unboxed ∙ ap (option_map (small_out b.pages)) (sym unboxed);
-  run = h.run ∙ run_out_same a.pages b.pages (thread_at a q.owner).open_run keeps.run ∙ ap (option_map (run_out b.pages)) (sym run) }
+  run = h.run ∙ run_out_same a.pages b.pages (thread_at a q.owner).open_run keeps.run ∙ ap (option_map (run_out b.pages)) (sym run);
+}
 
 -- and the conses' region too
 pub Agrees-entries : (a b : NamedHeap) (q : ParcelView) → state_of (thread_at b q.owner) ≡ state_of (thread_at a q.owner) →
     HasSameEntries a b q.owner → Agrees a q → Agrees b q
 Agrees-entries a b q state same h =
     let beside = Agrees-beside a b q (ap (λ (s : ThreadState). s.boxed_page) state) (ap (λ (s : ThreadState). s.unboxed_page) state) (ap (λ (s : ThreadState). s.open_run) state)
-      (record { boxed = same.pages types.Boxed; unboxed = same.pages types.Unboxed; run = same.run }) h in
+    (record { boxed = same.pages types.Boxed; unboxed = same.pages types.Unboxed; run = same.run }) h in
     record {
       cons = h.cons ∙ small_out_same a.pages b.pages (thread_at a q.owner).cons_page (same.pages types.Cons)
-        ∙ ap (λ (s : ThreadState). option_map (small_out b.pages) s.cons_page) (sym state);
-      boxed = beside.boxed; unboxed = beside.unboxed; run = beside.run }
+          ∙ ap (λ (s : ThreadState). option_map (small_out b.pages) s.cons_page) (sym state);
+      boxed = beside.boxed;
+      unboxed = beside.unboxed;
+      run = beside.run;
+    }

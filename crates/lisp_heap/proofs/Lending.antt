@@ -37,23 +37,24 @@ pub lends_opened : (s : Inside) (w : View) → IsSound s → view_of s ≡ w →
 lends_opened s w h e t first lt opens run =
     let here = subst (λ (v : View). next_of v t ≡ nexts.Open) (sym e) opens in
     subst (λ (v : View). Lends v t lents.Opened) e
-      (first, subst (λ (n : ℕ). IsRun (heap s).pages first n) (sym (needs_one s h t here)) run)
+    (first, subst (λ (n : ℕ). IsRun (heap s).pages first n) (sym (needs_one s h t here)) run)
 
 pub lends_exhausted : (s : Inside) (w : View) → IsSound s → view_of s ≡ w → (t : ℕ) → t < length w.program.threads → next_of w t ≡ nexts.Open →
     HasNoRun (heap s).pages 1 → Lends w t lents.Exhausted
 lends_exhausted s w h e t lt opens none =
     let here = subst (λ (v : View). next_of v t ≡ nexts.Open) (sym e) opens in
     subst (λ (v : View). Lends v t lents.Exhausted) e
-      (λ found. none (found.0) (subst (λ (n : ℕ). IsRun (heap s).pages (found.0) n) (needs_one s h t here) found.1))
+    (λ found. none (found.0) (subst (λ (n : ℕ). IsRun (heap s).pages (found.0) n) (needs_one s h t here) found.1))
 
 -- what is built for the owner's next is a cons
 by_next : (s : Inside) → IsSound s → (q : ParcelView) (n : Next) → next s.program (heap s) q.owner ≡ n → IsBuiltFor n q →
     (next s.program (heap s) q.owner ≡ nexts.Build kinds.Cons 2 0) × HasBuilt q kinds.Cons 2 0
 by_next s h q (nexts.Build kind n seed) e built =
     let found = IsSome-value (command_at s.program (heap s) q.owner) (build_command s.program (heap s) q.owner kind n seed e) in
-    let cons = builds_cons s.program (heap s) q.owner (found.0) kind n seed h.valid found.1 e in
-    (e ∙ ap (λ (k : Kind). nexts.Build k n seed) cons.0 ∙ ap (λ (m : ℕ). nexts.Build kinds.Cons m seed) cons.1 ∙ ap (λ (m : ℕ). nexts.Build kinds.Cons 2 m) cons.2,
-     subst (λ (m : ℕ). HasBuilt q kinds.Cons 2 m) cons.2 (subst (λ (m : ℕ). HasBuilt q kinds.Cons m seed) cons.1 (subst (λ (k : Kind). HasBuilt q k n seed) cons.0 built)))
+    let cons = builds_cons s.program (heap s) q.owner (found.0) kind n seed h.valid found.1 e in (
+      e ∙ ap (λ (k : Kind). nexts.Build k n seed) cons.0 ∙ ap (λ (m : ℕ). nexts.Build kinds.Cons m seed) cons.1 ∙ ap (λ (m : ℕ). nexts.Build kinds.Cons 2 m) cons.2,
+      subst (λ (m : ℕ). HasBuilt q kinds.Cons 2 m) cons.2 (subst (λ (m : ℕ). HasBuilt q kinds.Cons m seed) cons.1 (subst (λ (k : Kind). HasBuilt q k n seed) cons.0 built)),
+    )
 by_next s h q nexts.Simple e built = absurd built
 by_next s h q nexts.Open e built = absurd built
 by_next s h q (nexts.Collect last) e built = absurd built
@@ -85,6 +86,6 @@ built_place s w h e q index lt builds agrees said =
     let page = has_page s.program (heap s) q.owner kinds.Cons 2 (well_formed s h) refl ((builds_room s.program (heap s) q.owner (found.0) found.1 here).1) in
     let region = cons_region (heap s) q page.page agrees_here page.open_is in
     let next_is : (region.0).next ≡ page_words * page.page + page.fill =
-      ap (λ (z : ℕ × ℕ × ℕ). z.2) region.2 ∙ ap (λ (n : ℕ). page_words * page.page + n) (ap fill_of page.entry) in
+    ap (λ (z : ℕ × ℕ × ℕ). z.2) region.2 ∙ ap (λ (n : ℕ). page_words * page.page + n) (ap fill_of page.entry) in
     subst (λ (v : View). index ≡ place_for (heap_of v) q.owner kinds.Cons 2) e
-      (said (region.0) region.1 ∙ next_is ∙ sym (place_small (heap s) q.owner kinds.Cons 2 refl page))
+    (said (region.0) region.1 ∙ next_is ∙ sym (place_small (heap s) q.owner kinds.Cons 2 refl page))

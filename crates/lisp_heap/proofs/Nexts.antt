@@ -41,14 +41,14 @@ pub next_alive : (p : Program) (a : NamedHeap) (t : ℕ) → (thread_at a t).end
 unfolding next
 next_alive p a t e owed =
     ap (λ (o : Option ℕ). next_unless_due o (next_command a t (command_at p a t))) (sym (due_none (thread_at a t) owed))
-      ∙ ap (λ (b : Bool). if b then nexts.Done else next_unless_due (due (thread_at a t)) (next_command a t (command_at p a t))) (sym e)
+    ∙ ap (λ (b : Bool). if b then nexts.Done else next_unless_due (due (thread_at a t)) (next_command a t (command_at p a t))) (sym e)
 
 -- an open page is a page
 open_entry_below : (ty : PageType) (page : ℕ) (pages : List Entry) → IsOpenPage ty page (entry_at pages page) → page < length pages
 open_entry_below ty page pages h = elim (cases_lt page (length pages)) [
-      inl l ↦ l
-    | inr r ↦ absurd (subst (λ (e : Entry). IsOpenPage ty page e) (get_or_past pages page Free r) h)
-    ]
+  | inl l ↦ l
+  | inr r ↦ absurd (subst (λ (e : Entry). IsOpenPage ty page e) (get_or_past pages page Free r) h)
+]
 
 pub open_page_below : (p : Program) (a : NamedHeap) (t : ℕ) (ty : PageType) → IsWellFormed p a →
     (page : ℕ) → open_page (thread_at a t) ty ≡ Some page → page < length a.pages
@@ -88,6 +88,6 @@ can_build_cons a t q owner agrees true e =
 pub can_build : (p : Program) (a : NamedHeap) (t : ℕ) (c : Command) (q : ParcelView) → IsValid p → command_at p a t ≡ Some c → q.owner ≡ t →
     Agrees a q → CanBuild (next_for a t (wish_of c)) q
 can_build p a t c q valid at owner agrees = elim (script_wish p t (thread_at a t).done c valid at) [
-      inl nothing ↦ subst (λ (w : Wish). CanBuild (next_for a t w) q) (sym nothing) tt
-    | inr cons ↦ subst (λ (w : Wish). CanBuild (next_for a t w) q) (sym cons) (can_build_cons a t q owner agrees (has_room a t kinds.Cons 2) refl)
-    ]
+  | inl nothing ↦ subst (λ (w : Wish). CanBuild (next_for a t w) q) (sym nothing) tt
+  | inr cons ↦ subst (λ (w : Wish). CanBuild (next_for a t w) q) (sym cons) (can_build_cons a t q owner agrees (has_room a t kinds.Cons 2) refl)
+]

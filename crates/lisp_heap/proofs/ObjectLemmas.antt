@@ -30,21 +30,21 @@ word_of-with_field_at objects Nil i w (Ref y) = refl
 word_of-with_field_at objects Unbound i w (Ref y) = refl
 word_of-with_field_at objects (Ref x) i w (Ref y) =
     elim (set_cases objects x y (object_with_field (object_at objects x) i w) None) [
-      inl same ↦ ap word_of_object same
-    | inr changed ↦ ap word_of_object changed.2 ∙ word_of_object-with_field (object_at objects x) i w
-      ∙ ap (λ (k : ℕ). word_of_object (object_at objects k)) (sym changed.0)
+      | inl same ↦ ap word_of_object same
+      | inr changed ↦ ap word_of_object changed.2 ∙ word_of_object-with_field (object_at objects x) i w
+          ∙ ap (λ (k : ℕ). word_of_object (object_at objects k)) (sym changed.0)
     ]
 
 -- a name that is there is below the number of names
 pub name_below : (objects : List (Option Object)) (name : ℕ) → IsSome (object_at objects name) → name < length objects
 name_below objects name there = elim (cases_lt name (length objects)) [
-      inl h ↦ h
-    | inr h ↦ (
-        let gone : object_at objects name ≡ None = get_or_past objects name None h in
-        let found = IsSome-value (object_at objects name) there in
-        let clash : Some (found.0) ≡ None = sym found.1 ∙ gone in
-        let never : ⊥ = cc in absurd never)
-    ]
+  | inl h ↦ h
+  | inr h ↦ (
+      let gone : object_at objects name ≡ None = get_or_past objects name None h in
+      let found = IsSome-value (object_at objects name) there in
+      let clash : Some (found.0) ≡ None = sym found.1 ∙ gone in
+      let never : ⊥ = cc in absurd never)
+]
 
 -- one more object changes the word of no living value
 pub word_of-push : (objects : List (Option Object)) (o : Object) (v : Value) → IsLiving objects v →

@@ -48,7 +48,8 @@ pub fixed_is : (a : NamedHeap) (t : ℕ) (d : Cell) (n : ℤ) (word : ℕ) → I
 unfolding answer_of effect_of
 fixed_is a t d n word ok is = record {
   answers = refl;
-  makes = record { value = values.Fix n; is_cell = ok; word_is = is; effect = refl } }
+  makes = record { value = values.Fix n; is_cell = ok; word_is = is; effect = refl };
+}
 
 pub shown_is : (a : NamedHeap) (t : ℕ) (c : Cell) (v : Value) → v ≡ cell_value a t c → IsOutcome a t (commands.Show c) (answers.Val v) changes.Nothing
 unfolding answer_of effect_of
@@ -59,16 +60,18 @@ pub got_none : (a : NamedHeap) (t : ℕ) (d c : Cell) (i : ℕ) → fields_at a.
 unfolding answer_of effect_of
 got_none a t d c i none = record {
   answers = ap (λ (o : Option (List Value)). Some (refusing o i answers.Val)) none;
-  makes = ap (λ (o : Option (List Value)). changing o i a (λ v. with_cell a t d v)) none }
+  makes = ap (λ (o : Option (List Value)). changing o i a (λ v. with_cell a t d v)) none;
+}
 
 pub got_out : (a : NamedHeap) (t : ℕ) (d c : Cell) (i index : ℕ) → IsCons a.objects (cell_value a t c) index → 2 ≤ i →
     IsOutcome a t (commands.Get d c i) (answers.Refused OutOfRange) changes.Nothing
 unfolding answer_of effect_of
 got_out a t d c i index k out = record {
   answers = ap (λ (o : Option (List Value)). Some (refusing o i answers.Val)) (fields_are a.objects (cell_value a t c) index k)
-    ∙ ap Some (refusing_out (k.first ∷ k.second ∷ []) i answers.Val out);
+      ∙ ap Some (refusing_out (k.first ∷ k.second ∷ []) i answers.Val out);
   makes = ap (λ (o : Option (List Value)). changing o i a (λ v. with_cell a t d v)) (fields_are a.objects (cell_value a t c) index k)
-    ∙ changing_out (k.first ∷ k.second ∷ []) i a (λ v. with_cell a t d v) out }
+      ∙ changing_out (k.first ∷ k.second ∷ []) i a (λ v. with_cell a t d v) out;
+}
 
 pub got_is : (a : NamedHeap) (t : ℕ) (d c : Cell) (i index word : ℕ) (v : Value) → (k : IsCons a.objects (cell_value a t c) index) → i < 2 → IsCell d →
     v ≡ field_of k i → word ≡ word_of a.objects (field_of k i) →
@@ -76,28 +79,34 @@ pub got_is : (a : NamedHeap) (t : ℕ) (d c : Cell) (i index word : ℕ) (v : Va
 unfolding answer_of effect_of
 got_is a t d c i index word v k low ok is word_is = record {
   answers = ap (λ (o : Option (List Value)). Some (refusing o i answers.Val)) (fields_are a.objects (cell_value a t c) index k)
-    ∙ ap Some (refusing_in (k.first ∷ k.second ∷ []) i answers.Val low) ∙ ap (λ (x : Value). Some (answers.Val x)) (sym is);
+      ∙ ap Some (refusing_in (k.first ∷ k.second ∷ []) i answers.Val low) ∙ ap (λ (x : Value). Some (answers.Val x)) (sym is);
   makes = record {
-    value = field_of k i; is_cell = ok; word_is = word_is;
+    value = field_of k i;
+    is_cell = ok;
+    word_is = word_is;
     effect = ap (λ (o : Option (List Value)). changing o i a (λ v. with_cell a t d v)) (fields_are a.objects (cell_value a t c) index k)
-      ∙ changing_in (k.first ∷ k.second ∷ []) i a (λ v. with_cell a t d v) low } }
+        ∙ changing_in (k.first ∷ k.second ∷ []) i a (λ v. with_cell a t d v) low;
+  };
+}
 
 pub put_none : (a : NamedHeap) (t : ℕ) (c : Cell) (i : ℕ) (b : Cell) → fields_at a.objects (cell_value a t c) ≡ None →
     IsOutcome a t (commands.Put c i b) (answers.Refused NotType) changes.Nothing
 unfolding answer_of effect_of
 put_none a t c i b none = record {
   answers = ap (λ (o : Option (List Value)). Some (refusing o i (λ _. answers.Done))) none;
-  makes = ap (λ (o : Option (List Value)). changing o i a (λ _. record a { objects = with_field_at a.objects (cell_value a t c) i (cell_value a t b) })) none }
+  makes = ap (λ (o : Option (List Value)). changing o i a (λ _. record a { objects = with_field_at a.objects (cell_value a t c) i (cell_value a t b) })) none;
+}
 
 pub put_out : (a : NamedHeap) (t : ℕ) (c : Cell) (i : ℕ) (b : Cell) (index : ℕ) → IsCons a.objects (cell_value a t c) index → 2 ≤ i →
     IsOutcome a t (commands.Put c i b) (answers.Refused OutOfRange) changes.Nothing
 unfolding answer_of effect_of
 put_out a t c i b index k out = record {
   answers = ap (λ (o : Option (List Value)). Some (refusing o i (λ _. answers.Done))) (fields_are a.objects (cell_value a t c) index k)
-    ∙ ap Some (refusing_out (k.first ∷ k.second ∷ []) i (λ _. answers.Done) out);
+      ∙ ap Some (refusing_out (k.first ∷ k.second ∷ []) i (λ _. answers.Done) out);
   makes = ap (λ (o : Option (List Value)). changing o i a (λ _. record a { objects = with_field_at a.objects (cell_value a t c) i (cell_value a t b) }))
       (fields_are a.objects (cell_value a t c) index k)
-    ∙ changing_out (k.first ∷ k.second ∷ []) i a (λ _. record a { objects = with_field_at a.objects (cell_value a t c) i (cell_value a t b) }) out }
+      ∙ changing_out (k.first ∷ k.second ∷ []) i a (λ _. record a { objects = with_field_at a.objects (cell_value a t c) i (cell_value a t b) }) out;
+}
 
 pub put_is : (a : NamedHeap) (t : ℕ) (c : Cell) (i : ℕ) (b : Cell) (index at word : ℕ) → (k : IsCons a.objects (cell_value a t c) index) → i < 2 →
     at ≡ index + i → word ≡ word_of a.objects (cell_value a t b) →
@@ -105,14 +114,25 @@ pub put_is : (a : NamedHeap) (t : ℕ) (c : Cell) (i : ℕ) (b : Cell) (index at
 unfolding answer_of effect_of
 put_is a t c i b index at word k low at_is word_is = record {
   answers = ap (λ (o : Option (List Value)). Some (refusing o i (λ _. answers.Done))) (fields_are a.objects (cell_value a t c) index k)
-    ∙ ap Some (refusing_in (k.first ∷ k.second ∷ []) i (λ _. answers.Done) low);
+      ∙ ap Some (refusing_in (k.first ∷ k.second ∷ []) i (λ _. answers.Done) low);
   makes = record {
-    value = cell_value a t b; name = k.name; object = k.object; first = k.first; second = k.second; i = i; low = low;
-    there = k.there; cons = k.cons; at_index = at_is ∙ ap (λ (n : ℕ). n + i) k.place; word_is = word_is;
+    value = cell_value a t b;
+    name = k.name;
+    object = k.object;
+    first = k.first;
+    second = k.second;
+    i = i;
+    low = low;
+    there = k.there;
+    cons = k.cons;
+    at_index = at_is ∙ ap (λ (n : ℕ). n + i) k.place;
+    word_is = word_is;
     effect = ap (λ (o : Option (List Value)). changing o i a (λ _. record a { objects = with_field_at a.objects (cell_value a t c) i (cell_value a t b) }))
         (fields_are a.objects (cell_value a t c) index k)
-      ∙ changing_in (k.first ∷ k.second ∷ []) i a (λ _. record a { objects = with_field_at a.objects (cell_value a t c) i (cell_value a t b) }) low
-      ∙ ap (λ (v : Value). record a { objects = with_field_at a.objects v i (cell_value a t b) }) k.value_is } }
+        ∙ changing_in (k.first ∷ k.second ∷ []) i a (λ _. record a { objects = with_field_at a.objects (cell_value a t c) i (cell_value a t b) }) low
+        ∙ ap (λ (v : Value). record a { objects = with_field_at a.objects v i (cell_value a t b) }) k.value_is;
+  };
+}
 
 -- a fixnum is a signed number of 64 bits
 pub fixnum_fits : (n : ℤ) → IsFixnum n → FitsSigned w64 n

@@ -39,14 +39,15 @@ LabelsStand-put : (a : NamedHeap) (labels : List ℕ) (x i : ℕ) (v : Value) �
 LabelsStand-put a labels x i v s = record {
   long = s.long;
   named = λ name. IfSome-from (λ (q : Object). slice_index labels (q.place / 2) ≡ name) (object_at (with_field_at a.objects (values.Ref x) i v) name) (λ q h.
-    elim (set_cases a.objects x name (object_with_field (object_at a.objects x) i v) None) [
-      inl same ↦ IfSome-at (λ (k : Object). slice_index labels (k.place / 2) ≡ name) (object_at a.objects name) q (sym same ∙ h) (s.named name)
-    | inr changed ↦ (
-        let found = object_kept_place (object_at a.objects x) q i v (sym changed.2 ∙ h) in
-        let before : object_at a.objects name ≡ Some (found.0) = ap (object_at a.objects) (changed.0) ∙ found.1 in
-        ap (λ (k : ℕ). slice_index labels (k / 2)) found.2
-          ∙ IfSome-at (λ (k : Object). slice_index labels (k.place / 2) ≡ name) (object_at a.objects name) (found.0) before (s.named name))
-    ]) }
+      elim (set_cases a.objects x name (object_with_field (object_at a.objects x) i v) None) [
+        | inl same ↦ IfSome-at (λ (k : Object). slice_index labels (k.place / 2) ≡ name) (object_at a.objects name) q (sym same ∙ h) (s.named name)
+        | inr changed ↦ (
+            let found = object_kept_place (object_at a.objects x) q i v (sym changed.2 ∙ h) in
+            let before : object_at a.objects name ≡ Some (found.0) = ap (object_at a.objects) (changed.0) ∙ found.1 in
+            ap (λ (k : ℕ). slice_index labels (k / 2)) found.2
+            ∙ IfSome-at (λ (k : Object). slice_index labels (k.place / 2) ≡ name) (object_at a.objects name) (found.0) before (s.named name))
+      ]);
+}
 
 -- what the parts are after a change
 abbrev pub parts_after : Parts → ℕ → Change → Parts
@@ -65,15 +66,16 @@ Holds-change p a new v t (changes.InCell cell word) wf wf_new conses ht holds ma
       labels = LabelsStand-same a (with_cell a t cell makes.value) v.labels (with_cell-objects a t cell makes.value) (with_cell-pages a t cell makes.value) holds.labels;
       cells = CellsStand-with_cell a t cell makes.value word v.cells makes.is_cell lt th.stack_length th.exact_length wf.shared_length makes.word_is holds.cells;
       states = holds.states ∙ sym (with_cell-states a t cell makes.value);
-      commits = holds.commits ∙ ap length (sym (with_cell-objects a t cell makes.value)) })
+      commits = holds.commits ∙ ap length (sym (with_cell-objects a t cell makes.value));
+    })
 Holds-change p a new v t (changes.InSpace index word) wf wf_new conses ht holds makes =
     let b : NamedHeap = record a { objects = with_field_at a.objects (values.Ref makes.name) makes.i makes.value } in
     let wf_b : IsWellFormed p b = subst (λ (k : NamedHeap). IsWellFormed p k) makes.effect wf_new in
     let written : WordsStand b (set v.words (makes.object.place + makes.i) (word_of a.objects makes.value)) =
-      WordsStand-put p a v.words makes.name makes.i makes.object makes.first makes.second makes.value wf conses holds.words makes.there makes.cons makes.low wf_b in
+    WordsStand-put p a v.words makes.name makes.i makes.object makes.first makes.second makes.value wf conses holds.words makes.there makes.cons makes.low wf_b in
     let words_now : WordsStand b (set v.words index word) =
-      subst (λ (k : ℕ). WordsStand b (set v.words k word)) (sym makes.at_index)
-        (subst (λ (w : ℕ). WordsStand b (set v.words (makes.object.place + makes.i) w)) (sym makes.word_is) written) in
+    subst (λ (k : ℕ). WordsStand b (set v.words k word)) (sym makes.at_index)
+    (subst (λ (w : ℕ). WordsStand b (set v.words (makes.object.place + makes.i) w)) (sym makes.word_is) written) in
     subst (λ (k : NamedHeap). Holds k (parts_after v t (changes.InSpace index word))) (sym makes.effect) (record {
       words = words_now;
       pages = holds.pages;
@@ -81,9 +83,11 @@ Holds-change p a new v t (changes.InSpace index word) wf wf_new conses ht holds 
       cells = CellsStand-objects a (with_field_at a.objects (values.Ref makes.name) makes.i makes.value) v.cells (record {
         stack = λ u i hu hi. word_of-with_field_at a.objects (values.Ref makes.name) makes.i makes.value (get_or (thread_at a u).stack i zero_value);
         exact = λ u i hu hi. word_of-with_field_at a.objects (values.Ref makes.name) makes.i makes.value (get_or (thread_at a u).exact i zero_value);
-        shared = λ i hi. word_of-with_field_at a.objects (values.Ref makes.name) makes.i makes.value (get_or a.shared i zero_value) }) holds.cells;
+        shared = λ i hi. word_of-with_field_at a.objects (values.Ref makes.name) makes.i makes.value (get_or a.shared i zero_value);
+      }) holds.cells;
       states = holds.states;
-      commits = holds.commits ∙ sym (length-set a.objects makes.name (object_with_field (object_at a.objects makes.name) makes.i makes.value)) })
+      commits = holds.commits ∙ sym (length-set a.objects makes.name (object_with_field (object_at a.objects makes.name) makes.i makes.value));
+    })
 
 -- a thread changes in nothing but what its state says
 pub Holds-thread : (a : NamedHeap) (v : Parts) (t : ℕ) (th : Thread) (state : ThreadState) → th.stack ≡ (thread_at a t).stack →
@@ -95,7 +99,8 @@ Holds-thread a v t th state stack exact same holds = record {
   labels = LabelsStand-same a (with_thread a t th) v.labels refl refl holds.labels;
   cells = CellsStand-with_thread a t th v.cells stack exact holds.cells;
   states = states_set a v.states t th state holds.states same;
-  commits = holds.commits }
+  commits = holds.commits;
+}
 
 -- parts that are the same stand for the same heap
 pub Holds-same : (a : NamedHeap) (v w : Parts) → w.words ≡ v.words → w.pages ≡ v.pages → w.labels ≡ v.labels → w.cells ≡ v.cells →
@@ -106,4 +111,5 @@ Holds-same a v w words pages labels cells states commits h = record {
   labels = subst (λ (x : List ℕ). LabelsStand a x) (sym labels) h.labels;
   cells = subst (λ (x : CellsView). CellsStand a x) (sym cells) h.cells;
   states = states ∙ h.states;
-  commits = commits ∙ h.commits }
+  commits = commits ∙ h.commits;
+}

@@ -55,7 +55,6 @@ use Rattle.lisp_heap.proofs.WordReading.{cell_living_in}
 module _ (s : Inside) (h : IsSound s) (t : ℕ) (d x y : Cell) (index : ℕ) (lt : t < length s.program.threads)
     (at : command_at s.program (heap s) t ≡ Some (commands.NewCons d x y)) (builds : next s.program (heap s) t ≡ nexts.Build kinds.Cons 2 0)
     (index_is : index ≡ place_for (heap s) t kinds.Cons 2) where
-
   abbrev cons_command : Command
   cons_command = commands.NewCons d x y
 
@@ -76,7 +75,7 @@ module _ (s : Inside) (h : IsSound s) (t : ℕ) (d x y : Cell) (index : ℕ) (lt
   unfolding IsNext
   placed_next =
       let said : answers.Placed (length (heap s).objects) index ≡ answers.Placed (length (heap s).objects) (place_for (heap s) t kinds.Cons (size_of kinds.Cons 2)) =
-        ap (answers.Placed (length (heap s).objects)) index_is in
+      ap (answers.Placed (length (heap s).objects)) index_is in
       (at, subst (λ (n : Next). IsAnswer (heap s) t cons_command (answers.Placed (length (heap s).objects) index) n) (sym builds) said)
 
   -- the new object, and the heap with it
@@ -101,11 +100,11 @@ module _ (s : Inside) (h : IsSound s) (t : ℕ) (d x y : Cell) (index : ℕ) (lt
   placed_after : after s.program (heap s) (Did t cons_command answer) ≡ placed_heap
   unfolding after
   placed_after = ap (after_command s.program (heap s) t cons_command) builds
-    ∙ ap (λ (b : NamedHeap). advance b t) (committed-small s.program (heap s) t cons_command kinds.Cons 2 h.valid.auto refl on_page)
+      ∙ ap (λ (b : NamedHeap). advance b t) (committed-small s.program (heap s) t cons_command kinds.Cons 2 h.valid.auto refl on_page)
 
   placed_well_formed : IsWellFormed s.program placed_heap
   placed_well_formed = subst (λ (b : NamedHeap). IsWellFormed s.program b) placed_after
-    (after-well_formed s.program h.valid (heap s) (Did t cons_command answer) placed_next wf)
+      (after-well_formed s.program h.valid (heap s) (Did t cons_command answer) placed_next wf)
 
   objects_are : placed_heap.objects ≡ new_objects
   objects_are = with_cell-objects pushed t d (values.Ref (length (heap s).objects))
@@ -124,7 +123,7 @@ module _ (s : Inside) (h : IsSound s) (t : ℕ) (d x y : Cell) (index : ℕ) (lt
 
   place_facts : IsPlaced placed_heap.pages cons_object
   place_facts = new_placed s.program (heap s) placed_heap s.space cons_object first_value second_value (conses s h) (living_in (heap s).objects wf.contents)
-    h.holds.words refl (cell_living_in s h t x lt) (cell_living_in s h t y lt) objects_are pages_long placed_well_formed
+      h.holds.words refl (cell_living_in s h t x lt) (cell_living_in s h t y lt) objects_are pages_long placed_well_formed
 
   -- what the writes require
   pub inside_space : index + 2 ≤ length s.space
@@ -166,18 +165,18 @@ module _ (s : Inside) (h : IsSound s) (t : ℕ) (d x y : Cell) (index : ℕ) (lt
 
   words_stand : WordsStand placed_heap (set (set s.space index (word_of (heap s).objects first_value)) (index + 1) (word_of (heap s).objects second_value))
   words_stand = subst (λ (n : ℕ). WordsStand placed_heap (set (set s.space n (word_of (heap s).objects first_value)) (n + 1) (word_of (heap s).objects second_value))) (sym index_at)
-    (WordsStand-commit s.program (heap s) placed_heap s.space cons_object first_value second_value (conses s h) (living_in (heap s).objects wf.contents)
+      (WordsStand-commit s.program (heap s) placed_heap s.space cons_object first_value second_value (conses s h) (living_in (heap s).objects wf.contents)
       h.holds.words refl (cell_living_in s h t x lt) (cell_living_in s h t y lt) objects_are pages_long placed_well_formed)
 
   labels_stand : LabelsStand placed_heap (set s.labels (index / 2) (length (heap s).objects))
   labels_stand = subst (λ (n : ℕ). LabelsStand placed_heap (set s.labels (n / 2) (length (heap s).objects))) (sym index_at)
-    (LabelsStand-commit s.program (heap s) placed_heap s.space cons_object first_value second_value (conses s h) (living_in (heap s).objects wf.contents)
+      (LabelsStand-commit s.program (heap s) placed_heap s.space cons_object first_value second_value (conses s h) (living_in (heap s).objects wf.contents)
       h.holds.words refl (cell_living_in s h t x lt) (cell_living_in s h t y lt) objects_are pages_long placed_well_formed s.labels h.holds.labels)
 
   reference_is : word_of new_objects (values.Ref (length (heap s).objects)) ≡ reference_word index kinds.Cons
   reference_is =
       ap word_of_object (get_or_push (heap s).objects (Some cons_object) None (length (heap s).objects) refl)
-        ∙ ap (λ (n : ℕ). reference_word n kinds.Cons) (sym index_at)
+      ∙ ap (λ (n : ℕ). reference_word n kinds.Cons) (sym index_at)
 
   cells_stand : CellsStand placed_heap (with_cell_word s.cells t d (reference_word index kinds.Cons))
   cells_stand =
@@ -186,35 +185,41 @@ module _ (s : Inside) (h : IsSound s) (t : ℕ) (d x y : Cell) (index : ℕ) (lt
       let th = wf.threads t lt in
       let kept : (v : Value) → IsLiving a.objects v → word_of new_objects v ≡ word_of a.objects v = λ v living. word_of-push a.objects cons_object v living in
       let pushed_cells = CellsStand-objects a new_objects s.cells (record {
-          stack = λ u i hu hi. kept (get_or (thread_at a u).stack i zero_value) ((wf.threads u (subst (λ (n : ℕ). u < n) wf.threads_length hu)).stack i);
-          exact = λ u i hu hi. kept (get_or (thread_at a u).exact i zero_value) ((wf.threads u (subst (λ (n : ℕ). u < n) wf.threads_length hu)).exact i);
-          shared = λ i hi. kept (get_or a.shared i zero_value) (wf.shared i) }) h.holds.cells in
+        stack = λ u i hu hi. kept (get_or (thread_at a u).stack i zero_value) ((wf.threads u (subst (λ (n : ℕ). u < n) wf.threads_length hu)).stack i);
+        exact = λ u i hu hi. kept (get_or (thread_at a u).exact i zero_value) ((wf.threads u (subst (λ (n : ℕ). u < n) wf.threads_length hu)).exact i);
+        shared = λ i hi. kept (get_or a.shared i zero_value) (wf.shared i);
+      }) h.holds.cells in
       let on_pushed : CellsStand pushed s.cells = record {
-          stack_length = pushed_cells.stack_length; exact_length = pushed_cells.exact_length; shared_length = pushed_cells.shared_length;
-          stack = pushed_cells.stack; exact = pushed_cells.exact; shared = pushed_cells.shared } in
+        stack_length = pushed_cells.stack_length;
+        exact_length = pushed_cells.exact_length;
+        shared_length = pushed_cells.shared_length;
+        stack = pushed_cells.stack;
+        exact = pushed_cells.exact;
+        shared = pushed_cells.shared;
+      } in
       let on_celled : CellsStand celled (with_cell_word s.cells t d (reference_word index kinds.Cons)) =
-        CellsStand-with_cell pushed t d (values.Ref (length a.objects)) (reference_word index kinds.Cons) s.cells are_cells.0 below
-          th.stack_length th.exact_length wf.shared_length (sym reference_is) on_pushed in
+      CellsStand-with_cell pushed t d (values.Ref (length a.objects)) (reference_word index kinds.Cons) s.cells are_cells.0 below
+      th.stack_length th.exact_length wf.shared_length (sym reference_is) on_pushed in
       CellsStand-with_thread celled t (record (thread_at celled t) { done = (thread_at celled t).done + 1 })
-        (with_cell_word s.cells t d (reference_word index kinds.Cons)) refl refl on_celled
+      (with_cell_word s.cells t d (reference_word index kinds.Cons)) refl refl on_celled
 
   states_stand : advanced s.states t ≡ map state_of placed_heap.threads
   states_stand =
       let a = heap s in
       let same : map state_of celled.threads ≡ map state_of a.threads = with_cell-states pushed t d (values.Ref (length a.objects)) in
       let here : get_or s.states t fresh_state ≡ state_of (thread_at celled t) =
-        state_read a s.states t fresh_state h.holds.states (omega (arith, wf.threads_length, lt)) ∙ sym (states_at a celled t same) in
+      state_read a s.states t fresh_state h.holds.states (omega (arith, wf.threads_length, lt)) ∙ sym (states_at a celled t same) in
       states_set celled s.states t (record (thread_at celled t) { done = (thread_at celled t).done + 1 })
-        (record (get_or s.states t fresh_state) { done = (get_or s.states t fresh_state).done + 1 })
-        (h.holds.states ∙ sym same) (ap (λ (k : ThreadState). record k { done = k.done + 1 }) here)
+      (record (get_or s.states t fresh_state) { done = (get_or s.states t fresh_state).done + 1 })
+      (h.holds.states ∙ sym same) (ap (λ (k : ThreadState). record k { done = k.done + 1 }) here)
 
   pages_stand : set s.pages (index / 512) (with_fill (entry_at s.pages (index / 512)) (index % 512 + 2)) ≡ placed_heap.pages
   pages_stand =
       ap (λ (e : Entry). set s.pages (index / 512) (with_fill e (index % 512 + 2))) entry_is
-        ∙ ap (λ (n : ℕ). set s.pages (index / 512) (Used types.Cons 0 (n + 2) on_page.page 1)) index_fill
-        ∙ ap (λ (n : ℕ). set s.pages n (Used types.Cons 0 (on_page.fill + 2) on_page.page 1)) index_page
-        ∙ ap (λ (ps : List Entry). set ps on_page.page (Used types.Cons 0 (on_page.fill + 2) on_page.page 1)) h.holds.pages
-        ∙ sym pages_are
+      ∙ ap (λ (n : ℕ). set s.pages (index / 512) (Used types.Cons 0 (n + 2) on_page.page 1)) index_fill
+      ∙ ap (λ (n : ℕ). set s.pages n (Used types.Cons 0 (on_page.fill + 2) on_page.page 1)) index_page
+      ∙ ap (λ (ps : List Entry). set ps on_page.page (Used types.Cons 0 (on_page.fill + 2) on_page.page 1)) h.holds.pages
+      ∙ sym pages_are
 
   commits_stand : s.commits + 1 ≡ length placed_heap.objects
   commits_stand =
@@ -222,21 +227,23 @@ module _ (s : Inside) (h : IsSound s) (t : ℕ) (d x y : Cell) (index : ℕ) (lt
       omega (arith, h.holds.commits, grown, ap length objects_are)
 
   pub placed_holds : Holds (after s.program (heap s) (Did t cons_command (answers.Placed (length (heap s).objects) index)))
-    (record {
-      words = set (set s.space index (word_of (heap s).objects first_value)) (index + 1) (word_of (heap s).objects second_value);
-      pages = set s.pages (index / 512) (with_fill (entry_at s.pages (index / 512)) (index % 512 + 2));
-      labels = set s.labels (index / 2) (length (heap s).objects);
-      cells = with_cell_word s.cells t d (reference_word index kinds.Cons);
-      states = advanced s.states t;
-      commits = s.commits + 1 })
+      (record {
+        words = set (set s.space index (word_of (heap s).objects first_value)) (index + 1) (word_of (heap s).objects second_value);
+        pages = set s.pages (index / 512) (with_fill (entry_at s.pages (index / 512)) (index % 512 + 2));
+        labels = set s.labels (index / 2) (length (heap s).objects);
+        cells = with_cell_word s.cells t d (reference_word index kinds.Cons);
+        states = advanced s.states t;
+        commits = s.commits + 1;
+      })
   placed_holds = subst (λ (b : NamedHeap). Holds b (record {
-      words = set (set s.space index (word_of (heap s).objects first_value)) (index + 1) (word_of (heap s).objects second_value);
-      pages = set s.pages (index / 512) (with_fill (entry_at s.pages (index / 512)) (index % 512 + 2));
-      labels = set s.labels (index / 2) (length (heap s).objects);
-      cells = with_cell_word s.cells t d (reference_word index kinds.Cons);
-      states = advanced s.states t;
-      commits = s.commits + 1 })) (sym placed_after)
-    (record { words = words_stand; pages = pages_stand; labels = labels_stand; cells = cells_stand; states = states_stand; commits = commits_stand })
+    words = set (set s.space index (word_of (heap s).objects first_value)) (index + 1) (word_of (heap s).objects second_value);
+    pages = set s.pages (index / 512) (with_fill (entry_at s.pages (index / 512)) (index % 512 + 2));
+    labels = set s.labels (index / 2) (length (heap s).objects);
+    cells = with_cell_word s.cells t d (reference_word index kinds.Cons);
+    states = advanced s.states t;
+    commits = s.commits + 1;
+  })) (sym placed_after)
+      (record { words = words_stand; pages = pages_stand; labels = labels_stand; cells = cells_stand; states = states_stand; commits = commits_stand })
 
   -- ---- agreement
 
@@ -248,7 +255,7 @@ module _ (s : Inside) (h : IsSound s) (t : ℕ) (d x y : Cell) (index : ℕ) (lt
 
   elsewhere : (page : ℕ) → page ≢ on_page.page → entry_at celled.pages page ≡ entry_at (heap s).pages page
   elsewhere page other = ap (λ (ps : List Entry). entry_at ps page) celled_pages
-    ∙ get_or-set_other (heap s).pages on_page.page page (Used types.Cons 0 (on_page.fill + 2) on_page.page 1) Free other
+      ∙ get_or-set_other (heap s).pages on_page.page page (Used types.Cons 0 (on_page.fill + 2) on_page.page 1) Free other
 
   -- an open run does not begin on an open page
   run_elsewhere : (u page : ℕ) → (thread_at (heap s) u).open_run ≡ Some page → page ≢ on_page.page
@@ -257,7 +264,7 @@ module _ (s : Inside) (h : IsSound s) (t : ℕ) (d x y : Cell) (index : ℕ) (lt
       let here : page + 0 ≡ on_page.page = omega (arith, same) in
       let entry : entry_at (heap s).pages (page + 0) ≡ Used types.Cons 0 on_page.fill on_page.page 1 = ap (λ (n : ℕ). entry_at (heap s).pages n) here ∙ on_page.entry in
       let used : IsOpenRunPage page k.k (Used types.Cons 0 on_page.fill on_page.page 1) =
-        subst (λ (n : Entry). IsOpenRunPage page k.k n) entry (k.each 0 (omega (arith, k.long))) in
+      subst (λ (n : Entry). IsOpenRunPage page k.k n) entry (k.each 0 (omega (arith, k.long))) in
       omega (arith, used.3, k.long)
 
   pub placed_agrees : (q : ParcelView) → q.owner ≡ t → Agrees (heap s) q →
@@ -271,27 +278,31 @@ module _ (s : Inside) (h : IsSound s) (t : ℕ) (d x y : Cell) (index : ℕ) (lt
       let first : r.first ≡ on_page.page = ap (λ (z : ℕ × ℕ × ℕ). z.0) region.2 in
       let one : r.pages ≡ 1 = ap (λ (z : ℕ × ℕ × ℕ). z.1) region.2 in
       let next_is : r.next ≡ page_words * on_page.page + on_page.fill =
-        ap (λ (z : ℕ × ℕ × ℕ). z.2) region.2 ∙ ap (λ (n : ℕ). page_words * on_page.page + n) fill_here in
+      ap (λ (z : ℕ × ℕ × ℕ). z.2) region.2 ∙ ap (λ (n : ℕ). page_words * on_page.page + n) fill_here in
       let below : on_page.page < length a.pages = omega (arith, index_page, inside_pages, ap length h.holds.pages) in
       let now_entry : entry_at celled.pages on_page.page ≡ Used types.Cons 0 (on_page.fill + 2) on_page.page 1 =
-        ap (λ (ps : List Entry). entry_at ps on_page.page) celled_pages
-          ∙ get_or-set_same a.pages on_page.page (Used types.Cons 0 (on_page.fill + 2) on_page.page 1) Free below in
+      ap (λ (ps : List Entry). entry_at ps on_page.page) celled_pages
+      ∙ get_or-set_same a.pages on_page.page (Used types.Cons 0 (on_page.fill + 2) on_page.page 1) Free below in
       let moved : r.next + 2 ≡ page_words * on_page.page + fill_of (entry_at celled.pages on_page.page) =
-        omega (arith, next_is, ap fill_of now_entry) in
+      omega (arith, next_is, ap fill_of now_entry) in
       let place : place_of (cons_accepted r) ≡ small_out celled.pages on_page.page =
-        ap (λ (n : ℕ). (n, r.pages, r.next + 2)) first ∙ ap (λ (n : ℕ). (on_page.page, n, r.next + 2)) one ∙ ap (λ (n : ℕ). (on_page.page, 1, n)) moved in
+      ap (λ (n : ℕ). (n, r.pages, r.next + 2)) first ∙ ap (λ (n : ℕ). (on_page.page, n, r.next + 2)) one ∙ ap (λ (n : ℕ). (on_page.page, 1, n)) moved in
       let state = same_states q.owner in
       let beside = Agrees-beside a celled q (ap (λ (k : ThreadState). k.boxed_page) state) (ap (λ (k : ThreadState). k.unboxed_page) state) (ap (λ (k : ThreadState). k.open_run) state)
-        (record {
-          boxed = λ page e. elsewhere page (λ same. other_type types.Boxed page e same (λ z. cc) own_page);
-          unboxed = λ page e. elsewhere page (λ same. other_type types.Unboxed page e same (λ z. cc) own_page);
-          run = λ page e. elsewhere page (run_elsewhere q.owner page e) }) agrees in
+      (record {
+        boxed = λ page e. elsewhere page (λ same. other_type types.Boxed page e same (λ z. cc) own_page);
+        unboxed = λ page e. elsewhere page (λ same. other_type types.Unboxed page e same (λ z. cc) own_page);
+        run = λ page e. elsewhere page (run_elsewhere q.owner page e);
+      }) agrees in
       let on_celled : Agrees celled (with_accepted q) = record {
-          cons = ap (λ (o : Option RegionView). option_map place_of (option_map cons_accepted o)) region.1 ∙ ap Some place
+        cons = ap (λ (o : Option RegionView). option_map place_of (option_map cons_accepted o)) region.1 ∙ ap Some place
             ∙ ap (option_map (small_out celled.pages)) (sym own_page) ∙ ap (λ (k : ThreadState). option_map (small_out celled.pages) k.cons_page) (sym state);
-          boxed = beside.boxed; unboxed = beside.unboxed; run = beside.run } in
+        boxed = beside.boxed;
+        unboxed = beside.unboxed;
+        run = beside.run;
+      } in
       subst (λ (b : NamedHeap). Agrees b (with_accepted q)) (sym placed_after)
-        (Agrees-thread celled t (record (thread_at celled t) { done = (thread_at celled t).done + 1 }) (with_accepted q) refl refl refl refl on_celled)
+      (Agrees-thread celled t (record (thread_at celled t) { done = (thread_at celled t).done + 1 }) (with_accepted q) refl refl refl refl on_celled)
     where
       other_type : (ty : PageType) (page : ℕ) → open_page (thread_at (heap s) q.owner) ty ≡ Some page → page ≡ on_page.page → ty ≢ types.Cons →
           (thread_at (heap s) q.owner).cons_page ≡ Some on_page.page → ⊥
@@ -303,7 +314,8 @@ module _ (s : Inside) (h : IsSound s) (t : ℕ) (d x y : Cell) (index : ℕ) (lt
   placed_others q other agrees =
       let a = heap s in
       let on_celled : Agrees celled q = Agrees-entries a celled q (same_states q.owner) (record {
-          pages = λ ty page e. elsewhere page (λ same. other (wf.own_pages q.owner t ty types.Cons on_page.page (e ∙ ap Some same) on_page.open_is).0);
-          run = λ page e. elsewhere page (run_elsewhere q.owner page e) }) agrees in
+        pages = λ ty page e. elsewhere page (λ same. other (wf.own_pages q.owner t ty types.Cons on_page.page (e ∙ ap Some same) on_page.open_is).0);
+        run = λ page e. elsewhere page (run_elsewhere q.owner page e);
+      }) agrees in
       subst (λ (b : NamedHeap). Agrees b q) (sym placed_after)
-        (Agrees-thread celled t (record (thread_at celled t) { done = (thread_at celled t).done + 1 }) q refl refl refl refl on_celled)
+      (Agrees-thread celled t (record (thread_at celled t) { done = (thread_at celled t).done + 1 }) q refl refl refl refl on_celled)

@@ -21,7 +21,7 @@ pub apart_at : (p : Program) (a : NamedHeap) (x y : ℕ) (o q : Object) → IsWe
     object_at a.objects y ≡ Some q → AreApart o q
 apart_at p a x y o q wf n hx hy =
     IfSome-at (AreApart o) (object_at a.objects y) q hy
-      (IfSome-at (λ (k : Object). IfSome (object_at a.objects y) (AreApart k)) (object_at a.objects x) o hx (wf.apart x y n))
+    (IfSome-at (λ (k : Object). IfSome (object_at a.objects y) (AreApart k)) (object_at a.objects x) o hx (wf.apart x y n))
 
 -- an object of a well-formed heap is placed
 pub placed_at : (p : Program) (a : NamedHeap) (x : ℕ) (o : Object) → IsWellFormed p a → object_at a.objects x ≡ Some o → IsPlaced a.pages o
@@ -30,7 +30,6 @@ placed_at p a x o wf h = IfSome-at (IsPlaced a.pages) (object_at a.objects x) o 
 module _ (p : Program) (a : NamedHeap) (words : List ℕ) (x i : ℕ) (o : Object) (P Q w : Value)
     (wf : IsWellFormed p a) (conses : AreConses a.objects) (s : WordsStand a words)
     (there : object_at a.objects x ≡ Some o) (is : o.contents ≡ ConsOf P Q) (low : i < 2) where
-
   abbrev at_word : ℕ
   at_word = o.place + i
 
@@ -39,11 +38,10 @@ module _ (p : Program) (a : NamedHeap) (words : List ℕ) (x i : ℕ) (o : Objec
   changed = record o { contents = with_field (ConsOf P Q) i w }
 
   now_there : object_at (with_field_at a.objects (Ref x) i w) x ≡ Some changed
-
   now_there =
       get_or-set_same a.objects x (object_with_field (object_at a.objects x) i w) None (name_below a.objects x (IsSome-from (object_at a.objects x) o there))
-        ∙ ap (λ (k : Option Object). object_with_field k i w) there
-        ∙ ap (λ (k : Contents). Some (record o { contents = with_field k i w })) is
+      ∙ ap (λ (k : Option Object). object_with_field k i w) there
+      ∙ ap (λ (k : Contents). Some (record o { contents = with_field k i w })) is
 
   abbrev new_objects : List (Option Object)
   new_objects = with_field_at a.objects (Ref x) i w
@@ -65,25 +63,25 @@ module _ (p : Program) (a : NamedHeap) (words : List ℕ) (x i : ℕ) (o : Objec
       own zero l same room first second =
           let here : o.place + i ≡ o.place = omega arith in
           let written : slice_index new_words o.place ≡ word_of a.objects w =
-            subst (λ (k : ℕ). slice_index (set words k (word_of a.objects w)) o.place ≡ word_of a.objects w) (sym here)
-              (get_or-set_same words o.place (word_of a.objects w) 0 (omega arith)) in
+          subst (λ (k : ℕ). slice_index (set words k (word_of a.objects w)) o.place ≡ word_of a.objects w) (sym here)
+          (get_or-set_same words o.place (word_of a.objects w) 0 (omega arith)) in
           let other : o.place + 1 ≢ at_word = λ e. omega arith in
           let kept : slice_index new_words (o.place + 1) ≡ word_of a.objects Q =
-            get_or-set_other words at_word (o.place + 1) (word_of a.objects w) 0 other ∙ second in
+          get_or-set_other words at_word (o.place + 1) (word_of a.objects w) 0 other ∙ second in
           subst (λ (k : ℕ). AreAt new_words o.place (spelling new_objects (with_field (ConsOf P Q) k w))) same
-            (cons_spelled new_objects new_words (record o { contents = ConsOf w Q }) w Q refl
-              (written ∙ sym (word_of-with_field_at a.objects (Ref x) i w w)) (kept ∙ sym (word_of-with_field_at a.objects (Ref x) i w Q)))
+          (cons_spelled new_objects new_words (record o { contents = ConsOf w Q }) w Q refl
+          (written ∙ sym (word_of-with_field_at a.objects (Ref x) i w w)) (kept ∙ sym (word_of-with_field_at a.objects (Ref x) i w Q)))
       own (suc zero) l same room first second =
           let here : o.place + i ≡ o.place + 1 = omega arith in
           let written : slice_index new_words (o.place + 1) ≡ word_of a.objects w =
-            subst (λ (k : ℕ). slice_index (set words k (word_of a.objects w)) (o.place + 1) ≡ word_of a.objects w) (sym here)
-              (get_or-set_same words (o.place + 1) (word_of a.objects w) 0 (omega arith)) in
+          subst (λ (k : ℕ). slice_index (set words k (word_of a.objects w)) (o.place + 1) ≡ word_of a.objects w) (sym here)
+          (get_or-set_same words (o.place + 1) (word_of a.objects w) 0 (omega arith)) in
           let other : o.place ≢ at_word = λ e. omega arith in
           let kept : slice_index new_words o.place ≡ word_of a.objects P =
-            get_or-set_other words at_word o.place (word_of a.objects w) 0 other ∙ first in
+          get_or-set_other words at_word o.place (word_of a.objects w) 0 other ∙ first in
           subst (λ (k : ℕ). AreAt new_words o.place (spelling new_objects (with_field (ConsOf P Q) k w))) same
-            (cons_spelled new_objects new_words (record o { contents = ConsOf P w }) P w refl
-              (kept ∙ sym (word_of-with_field_at a.objects (Ref x) i w P)) (written ∙ sym (word_of-with_field_at a.objects (Ref x) i w w)))
+          (cons_spelled new_objects new_words (record o { contents = ConsOf P w }) P w refl
+          (kept ∙ sym (word_of-with_field_at a.objects (Ref x) i w P)) (written ∙ sym (word_of-with_field_at a.objects (Ref x) i w w)))
       own (suc (suc j)) l same room first second = absurd (omega arith)
 
   -- every other object
@@ -94,22 +92,23 @@ module _ (p : Program) (a : NamedHeap) (words : List ℕ) (x i : ℕ) (o : Objec
       let two_here : words_of_object q ≡ 2 = cons_words q (parts.0) (parts.1) (parts.2) in
       let not_same : x ≢ name = λ e. n (sym e) in
       let beside : (at_word < q.place) ⊎ (q.place + 2 ≤ at_word) =
-        elim (apart_at p a x name o q wf not_same there h) [ inl l ↦ inl (omega arith) | inr r ↦ inr (omega arith) ] in
+      elim (apart_at p a x name o q wf not_same there h) [ inl l ↦ inl (omega arith) | inr r ↦ inr (omega arith) ] in
       let kept = outside words q.place at_word (word_of a.objects w) beside in
       let old = cons_at a words name q (parts.0) (parts.1) s h (parts.2) in
       cons_spelled new_objects new_words q (parts.0) (parts.1) (parts.2)
-        (kept.0 ∙ old.0 ∙ sym (word_of-with_field_at a.objects (Ref x) i w (parts.0)))
-        (kept.1 ∙ old.1 ∙ sym (word_of-with_field_at a.objects (Ref x) i w (parts.1)))
+      (kept.0 ∙ old.0 ∙ sym (word_of-with_field_at a.objects (Ref x) i w (parts.0)))
+      (kept.1 ∙ old.1 ∙ sym (word_of-with_field_at a.objects (Ref x) i w (parts.1)))
 
   pub WordsStand-put : IsWellFormed p (record a { objects = new_objects }) → WordsStand (record a { objects = new_objects }) new_words
   WordsStand-put after = record {
     long = length-set words at_word (word_of a.objects w) ∙ s.long;
     spelled = λ name. IfSome-from (λ (q : Object). AreAt new_words q.place (spelling new_objects q.contents)) (object_at new_objects name) (λ q h.
-      elim (cases_eq name x) [
-        inl e ↦ (
-          let found : Some q ≡ Some changed = sym h ∙ ap (object_at new_objects) e ∙ now_there in
-          let same : q ≡ changed = cc in
-          subst (λ (k : Object). AreAt new_words k.place (spelling new_objects k.contents)) (sym same) own_words)
-      | inr n ↦ others_words name q n (sym (get_or-set_other a.objects x name (object_with_field (object_at a.objects x) i w) None n) ∙ h)
-      ]);
-    fillers = no_fillers p (record a { objects = new_objects }) new_words after }
+        elim (cases_eq name x) [
+          | inl e ↦ (
+              let found : Some q ≡ Some changed = sym h ∙ ap (object_at new_objects) e ∙ now_there in
+              let same : q ≡ changed = cc in
+              subst (λ (k : Object). AreAt new_words k.place (spelling new_objects k.contents)) (sym same) own_words)
+          | inr n ↦ others_words name q n (sym (get_or-set_other a.objects x name (object_with_field (object_at a.objects x) i w) None n) ∙ h)
+        ]);
+    fillers = no_fillers p (record a { objects = new_objects }) new_words after;
+  }

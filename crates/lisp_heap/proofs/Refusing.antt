@@ -25,13 +25,12 @@ use Rattle.lisp_heap.proofs.Wishing.{opens_cons}
 
 module _ (s : Inside) (h : IsSound s) (t : ℕ) (c : Command) (lt : t < length s.program.threads)
     (at : command_at s.program (heap s) t ≡ Some c) (opens : next s.program (heap s) t ≡ nexts.Open) where
-
   pub refused_next : HasNoRun (heap s).pages 1 → IsNext s.program (heap s) (Did t c (answers.Refused Exhausted))
   unfolding IsNext
   refused_next none =
       let wish = opens_cons s.program (heap s) t c h.valid at opens in
       let no_run : HasNoRun (heap s).pages (pages_needed (wished_size (wish_of c))) =
-        subst (λ (w : Wish). HasNoRun (heap s).pages (pages_needed (wished_size w))) (sym wish) none in
+      subst (λ (w : Wish). HasNoRun (heap s).pages (pages_needed (wished_size w))) (sym wish) none in
       (at, subst (λ (n : Next). IsAnswer (heap s) t c (answers.Refused Exhausted) n) (sym opens) (refl, no_run))
 
   refused_after : after s.program (heap s) (Did t c (answers.Refused Exhausted)) ≡ advance (heap s) t
@@ -42,15 +41,15 @@ module _ (s : Inside) (h : IsSound s) (t : ℕ) (c : Command) (lt : t < length s
   refused_holds =
       let a = heap s in
       let here : get_or s.states t fresh_state ≡ state_of (thread_at a t) =
-        state_read a s.states t fresh_state h.holds.states (omega (arith, (well_formed s h).threads_length, lt)) in
+      state_read a s.states t fresh_state h.holds.states (omega (arith, (well_formed s h).threads_length, lt)) in
       let moved : ThreadState = record (get_or s.states t fresh_state) { done = (get_or s.states t fresh_state).done + 1 } in
       let is_moved : moved ≡ state_of (record (thread_at a t) { done = (thread_at a t).done + 1 }) =
-        ap (λ (x : ThreadState). record x { done = x.done + 1 }) here in
+      ap (λ (x : ThreadState). record x { done = x.done + 1 }) here in
       subst (λ (b : NamedHeap). Holds b (record (parts_of s) { states = advanced s.states t })) (sym refused_after)
-        (Holds-thread a (parts_of s) t (record (thread_at a t) { done = (thread_at a t).done + 1 }) moved refl refl is_moved h.holds)
+      (Holds-thread a (parts_of s) t (record (thread_at a t) { done = (thread_at a t).done + 1 }) moved refl refl is_moved h.holds)
 
   pub refused_agrees : (q : ParcelView) → Agrees (heap s) q → Agrees (after s.program (heap s) (Did t c (answers.Refused Exhausted))) q
   refused_agrees q agrees =
       let a = heap s in
       subst (λ (b : NamedHeap). Agrees b q) (sym refused_after)
-        (Agrees-thread a t (record (thread_at a t) { done = (thread_at a t).done + 1 }) q refl refl refl refl agrees)
+      (Agrees-thread a t (record (thread_at a t) { done = (thread_at a t).done + 1 }) q refl refl refl refl agrees)

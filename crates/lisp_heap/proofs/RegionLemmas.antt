@@ -46,28 +46,30 @@ pub entries_kept : (p : Program) (a : NamedHeap) (first : ℕ) (u : ℕ) → IsW
     (b : NamedHeap) → b.pages ≡ with_run a.pages first 1 types.Cons → HasSameEntries a b u
 entries_kept p a first u wf run b pages = record {
   pages = λ ty page e. ap (λ (ps : List Entry). entry_at ps page) pages ∙ elim (run_cases a.pages first 1 types.Cons page run) [
-      inl same ↦ same
+    | inl same ↦ same
     | inr taken ↦ absurd (open_not_free ty page (entry_at a.pages page) (open_page_used p a u ty page wf e) taken.3)
-    ];
+  ];
   run = λ page e. ap (λ (ps : List Entry). entry_at ps page) pages ∙ elim (run_cases a.pages first 1 types.Cons page run) [
-      inl same ↦ same
+    | inl same ↦ same
     | inr taken ↦ (
         let k = open_run_used p a u page wf e in
         let here : page + 0 ≡ page = omega arith in
         let used : IsOpenRunPage page k.k (entry_at a.pages page) =
-          subst (λ (n : ℕ). IsOpenRunPage page k.k (entry_at a.pages n)) here (k.each 0 (omega (arith, k.long))) in
+        subst (λ (n : ℕ). IsOpenRunPage page k.k (entry_at a.pages n)) here (k.each 0 (omega (arith, k.long))) in
         absurd (run_not_free page k.k (entry_at a.pages page) used taken.3))
-    ] }
+  ];
+}
 
 module _ (s : Inside) (h : IsSound s) (t : ℕ) (c : Command) (first : ℕ) (lt : t < length s.program.threads)
     (at : command_at s.program (heap s) t ≡ Some c) (opens : next s.program (heap s) t ≡ nexts.Open) (lowest : IsLowestRun (heap s).pages first 1) where
-
   pub opened_next : IsNext s.program (heap s) (Opened t types.Cons first 1)
   unfolding IsNext
   opened_next =
-      let wish = opens_cons s.program (heap s) t c h.valid at opens in
-      (opens, subst (λ (o : Option Command). IsOpening (heap s) (wish_at o) types.Cons first 1) (sym at)
-        (subst (λ (w : Wish). IsOpening (heap s) w types.Cons first 1) (sym wish) (refl, refl, lowest)))
+      let wish = opens_cons s.program (heap s) t c h.valid at opens in (
+        opens,
+        subst (λ (o : Option Command). IsOpening (heap s) (wish_at o) types.Cons first 1) (sym at)
+            (subst (λ (w : Wish). IsOpening (heap s) w types.Cons first 1) (sym wish) (refl, refl, lowest)),
+      )
 
   -- thread t with the page open, and the heap after it
   abbrev opened_thread : Thread
@@ -82,7 +84,7 @@ module _ (s : Inside) (h : IsSound s) (t : ℕ) (c : Command) (first : ℕ) (lt 
 
   opened_well_formed : IsWellFormed s.program opened_heap
   opened_well_formed = subst (λ (b : NamedHeap). IsWellFormed s.program b) opened_after
-    (after-well_formed s.program h.valid (heap s) (Opened t types.Cons first 1) opened_next (well_formed s h))
+      (after-well_formed s.program h.valid (heap s) (Opened t types.Cons first 1) opened_next (well_formed s h))
 
   state_here : get_or s.states t fresh_state ≡ state_of (thread_at (heap s) t)
   state_here = state_read (heap s) s.states t fresh_state h.holds.states (omega (arith, (well_formed s h).threads_length, lt))
@@ -96,19 +98,27 @@ module _ (s : Inside) (h : IsSound s) (t : ℕ) (c : Command) (first : ℕ) (lt 
         words = record {
           long = h.holds.words.long ∙ ap (λ n. page_words * n) (sym long);
           spelled = h.holds.words.spelled;
-          fillers = no_fillers s.program opened_heap s.space opened_well_formed };
+          fillers = no_fillers s.program opened_heap s.space opened_well_formed;
+        };
         pages = ap (λ (ps : List Entry). with_run ps first 1 types.Cons) h.holds.pages;
         labels = record { long = h.holds.labels.long ∙ ap (λ n. 256 * n) (sym long); named = h.holds.labels.named };
-        cells = record { stack_length = cells.stack_length; exact_length = cells.exact_length; shared_length = cells.shared_length;
-          stack = cells.stack; exact = cells.exact; shared = cells.shared };
+        cells = record {
+          stack_length = cells.stack_length;
+          exact_length = cells.exact_length;
+          shared_length = cells.shared_length;
+          stack = cells.stack;
+          exact = cells.exact;
+          shared = cells.shared;
+        };
         states = states_set a s.states t opened_thread (record (get_or s.states t fresh_state) { cons_page = Some first }) h.holds.states
-          (ap (λ (x : ThreadState). record x { cons_page = Some first }) state_here);
-        commits = h.holds.commits }
+            (ap (λ (x : ThreadState). record x { cons_page = Some first }) state_here);
+        commits = h.holds.commits;
+      }
 
   pub opened_holds : Holds (after s.program (heap s) (Opened t types.Cons first 1))
-    (record (parts_of s) { pages = with_run s.pages first 1 types.Cons; states = with_cons_open s.states t first })
+      (record (parts_of s) { pages = with_run s.pages first 1 types.Cons; states = with_cons_open s.states t first })
   opened_holds = subst (λ (b : NamedHeap). Holds b (record (parts_of s) { pages = with_run s.pages first 1 types.Cons; states = with_cons_open s.states t first }))
-    (sym opened_after) holds_now
+      (sym opened_after) holds_now
 
   thread_now : thread_at opened_heap t ≡ opened_thread
   thread_now = thread_at-same (heap s) t opened_thread (omega (arith, (well_formed s h).threads_length, lt))
@@ -120,20 +130,23 @@ module _ (s : Inside) (h : IsSound s) (t : ℕ) (c : Command) (first : ℕ) (lt 
       let before : thread_at a q.owner ≡ thread_at a t = ap (thread_at a) owner in
       let same = entries_kept s.program a first q.owner (well_formed s h) lowest.run opened_heap refl in
       let beside = Agrees-beside a opened_heap q (ap (λ (x : Thread). x.boxed_page) own ∙ sym (ap (λ (x : Thread). x.boxed_page) before))
-        (ap (λ (x : Thread). x.unboxed_page) own ∙ sym (ap (λ (x : Thread). x.unboxed_page) before))
-        (ap (λ (x : Thread). x.open_run) own ∙ sym (ap (λ (x : Thread). x.open_run) before))
-        (record { boxed = same.pages types.Boxed; unboxed = same.pages types.Unboxed; run = same.run }) agrees in
+      (ap (λ (x : Thread). x.unboxed_page) own ∙ sym (ap (λ (x : Thread). x.unboxed_page) before))
+      (ap (λ (x : Thread). x.open_run) own ∙ sym (ap (λ (x : Thread). x.open_run) before))
+      (record { boxed = same.pages types.Boxed; unboxed = same.pages types.Unboxed; run = same.run }) agrees in
       let entry : entry_at (with_run a.pages first 1 types.Cons) first ≡ Used types.Cons 0 0 first 1 =
-        run_entry a.pages first 1 types.Cons first lowest.run.inside (omega arith) (omega arith) in
+      run_entry a.pages first 1 types.Cons first lowest.run.inside (omega arith) (omega arith) in
       let place : page_words * first ≡ page_words * first + fill_of (entry_at (with_run a.pages first 1 types.Cons) first) =
-        omega (arith, ap fill_of entry) in
+      omega (arith, ap fill_of entry) in
       subst (λ (b : NamedHeap). Agrees b (with_cons q first)) (sym opened_after) (record {
         cons = ap (λ (n : ℕ). Some (first, 1, n)) place ∙ ap (λ (x : Thread). option_map (small_out (with_run a.pages first 1 types.Cons)) x.cons_page) (sym own);
-        boxed = beside.boxed; unboxed = beside.unboxed; run = beside.run })
+        boxed = beside.boxed;
+        unboxed = beside.unboxed;
+        run = beside.run;
+      })
 
   pub opened_others : (q : ParcelView) → q.owner ≢ t → Agrees (heap s) q → Agrees (after s.program (heap s) (Opened t types.Cons first 1)) q
   opened_others q other agrees =
       let a = heap s in
       let same = entries_kept s.program a first q.owner (well_formed s h) lowest.run opened_heap refl in
       subst (λ (b : NamedHeap). Agrees b q) (sym opened_after)
-        (Agrees-entries a opened_heap q (ap state_of (thread_at-other a t q.owner opened_thread other)) same agrees)
+      (Agrees-entries a opened_heap q (ap state_of (thread_at-other a t q.owner opened_thread other)) same agrees)

@@ -50,10 +50,11 @@ pub sound_after : (s r : Inside) (e : Event) → IsSound s → r.program ≡ s.p
     IsNext s.program (heap s) e → Holds (after s.program (heap s) e) (parts_of r) → IsSound r
 sound_after s r e h program history lawful holds =
     let on : IsSoundAt s.program r.history.items (parts_of r) = record {
-        valid = h.valid;
-        lawful = subst (λ (es : List Event). Lawful s.program es) (sym history) (Lawful-push s.program s.history.items e h.lawful lawful);
-        holds = subst (λ (es : List Event). Holds (replay s.program es) (parts_of r)) (sym history)
-          (subst (λ (a : NamedHeap). Holds a (parts_of r)) (sym (replay-push s.program s.history.items e)) holds) } in
+      valid = h.valid;
+      lawful = subst (λ (es : List Event). Lawful s.program es) (sym history) (Lawful-push s.program s.history.items e h.lawful lawful);
+      holds = subst (λ (es : List Event). Holds (replay s.program es) (parts_of r)) (sym history)
+          (subst (λ (a : NamedHeap). Holds a (parts_of r)) (sym (replay-push s.program s.history.items e)) holds);
+    } in
     let there : IsSoundAt r.program r.history.items (parts_of r) = subst (λ (p : Program). IsSoundAt p r.history.items (parts_of r)) (sym program) on in
     record { valid = there.valid; lawful = there.lawful; holds = there.holds }
 
@@ -61,7 +62,7 @@ pub happens_after : (s r : Inside) (w : View) (t : ℕ) (e : Event) → view_of 
     thread_of e ≡ t → IsNext s.program (heap s) e → Happens t w (view_of r)
 happens_after s r w t e view program history thread lawful =
     subst (λ (x : View). Happens t x (view_of r)) view
-      (record { event = e; thread = thread; lawful = lawful; program = program; history = history })
+    (record { event = e; thread = thread; lawful = lawful; program = program; history = history })
 
 -- the heap after it
 pub heap_after : (s r : Inside) (e : Event) → r.program ≡ s.program → r.history.items ≡ s.history.items ++ e ∷ [] →
@@ -74,7 +75,7 @@ pub agrees_after : (s r : Inside) (w : View) (e : Event) (old new : ParcelView) 
     (Agrees (heap s) old → Agrees (after s.program (heap s) e) new) → Agrees (heap_of w) old → Agrees (heap_of (view_of r)) new
 agrees_after s r w e old new view program history kept before =
     subst (λ (a : NamedHeap). Agrees a new) (sym (heap_after s r e program history))
-      (kept (subst (λ (x : View). Agrees (heap_of x) old) (sym view) before))
+    (kept (subst (λ (x : View). Agrees (heap_of x) old) (sym view) before))
 
 parts_hold : (s : Inside) → IsSound s → Holds (heap s) (parts_of s)
 parts_hold s h = h.holds
@@ -94,7 +95,6 @@ makes_pages a t new (changes.InSpace index word) m = ap (λ (b : NamedHeap). b.p
 module _ (s : Inside) (h : IsSound s) (t : ℕ) (c : Command) (answer : Answer) (change : Change)
     (lt : t < length s.program.threads) (at : command_at s.program (heap s) t ≡ Some c) (simple : next s.program (heap s) t ≡ nexts.Simple)
     (is : IsOutcome (heap s) t c answer change) where
-
   pub did_next : IsNext s.program (heap s) (Did t c answer)
   unfolding IsNext
   did_next = (at, subst (λ (n : Next). IsAnswer (heap s) t c answer n) (sym simple) is.answers)
@@ -108,7 +108,7 @@ module _ (s : Inside) (h : IsSound s) (t : ℕ) (c : Command) (answer : Answer) 
 
   effect_holds : Holds (effect_of (heap s) t c) (parts_after (parts_of s) t change)
   effect_holds = Holds-change s.program (heap s) (effect_of (heap s) t c) (parts_of s) t change (well_formed s h) effect_well_formed
-    (conses s h) lt (parts_hold s h) is.makes
+      (conses s h) lt (parts_hold s h) is.makes
 
   -- the states are those before, and thread t is as far as it was
   pub same_states : map state_of (effect_of (heap s) t c).threads ≡ map state_of (heap s).threads
@@ -118,23 +118,23 @@ module _ (s : Inside) (h : IsSound s) (t : ℕ) (c : Command) (answer : Answer) 
   same_pages = makes_pages (heap s) t (effect_of (heap s) t c) change is.makes
 
   pub did_holds : Holds (after s.program (heap s) (Did t c answer))
-    (record (parts_after (parts_of s) t change) { states = advanced s.states t })
+      (record (parts_after (parts_of s) t change) { states = advanced s.states t })
   did_holds =
       let b = effect_of (heap s) t c in
       let state_here : get_or s.states t fresh_state ≡ state_of (thread_at b t) =
-        state_read (heap s) s.states t fresh_state h.holds.states (omega (arith, (well_formed s h).threads_length, lt)) ∙ sym (states_at (heap s) b t same_states) in
+      state_read (heap s) s.states t fresh_state h.holds.states (omega (arith, (well_formed s h).threads_length, lt)) ∙ sym (states_at (heap s) b t same_states) in
       let moved : ThreadState = record (get_or s.states t fresh_state) { done = (get_or s.states t fresh_state).done + 1 } in
       let is_moved : moved ≡ state_of (record (thread_at b t) { done = (thread_at b t).done + 1 }) =
-        ap (λ (x : ThreadState). record x { done = x.done + 1 }) state_here in
+      ap (λ (x : ThreadState). record x { done = x.done + 1 }) state_here in
       subst (λ (a : NamedHeap). Holds a (record (parts_after (parts_of s) t change) { states = advanced s.states t })) (sym did_after)
-        (Holds-thread b (parts_after (parts_of s) t change) t (record (thread_at b t) { done = (thread_at b t).done + 1 }) moved refl refl is_moved effect_holds)
+      (Holds-thread b (parts_after (parts_of s) t change) t (record (thread_at b t) { done = (thread_at b t).done + 1 }) moved refl refl is_moved effect_holds)
 
   pub did_agrees : (q : ParcelView) → Agrees (heap s) q → Agrees (after s.program (heap s) (Did t c answer)) q
   did_agrees q agrees =
       let b = effect_of (heap s) t c in
       subst (λ (a : NamedHeap). Agrees a q) (sym did_after)
-        (Agrees-thread b t (record (thread_at b t) { done = (thread_at b t).done + 1 }) q refl refl refl refl
-          (Agrees-same (heap s) b q same_pages (states_at (heap s) b q.owner same_states) agrees))
+      (Agrees-thread b t (record (thread_at b t) { done = (thread_at b t).done + 1 }) q refl refl refl refl
+      (Agrees-same (heap s) b q same_pages (states_at (heap s) b q.owner same_states) agrees))
 
   pub can_change : CanChange s.cells s.space t change
   can_change = by_change change is.makes
@@ -160,7 +160,7 @@ pub state_room : (s : Inside) → IsSound s → (t : ℕ) (c : Command) → t < 
 state_room s h t c lt at x found =
     let is : get_or s.states t x ≡ x = get_or_from_slice_get s.states t x x found in
     let known : get_or s.states t x ≡ state_of (thread_at (heap s) t) =
-      state_read (heap s) s.states t x h.holds.states (omega (arith, (well_formed s h).threads_length, lt)) in
+    state_read (heap s) s.states t x h.holds.states (omega (arith, (well_formed s h).threads_length, lt)) in
     let same : x.done ≡ (thread_at (heap s) t).done = ap (λ (k : ThreadState). k.done) (sym is ∙ known) in
     omega (arith, same, done_small s h t c lt at)
 

@@ -13,9 +13,9 @@ thread_at-other a t u th h = get_or-set_other a.threads t u th _ h
 pub thread_part : {F : Type 0} (f : Thread → F) (a : NamedHeap) (t u : ℕ) (th : Thread) → f th ≡ f (thread_at a t) →
     u < length a.threads → f (thread_at (with_thread a t th) u) ≡ f (thread_at a u)
 thread_part {F} f a t u th same h = elim (cases_eq u t) [
-      inl e ↦ (
-        let at_t : t < length a.threads = subst (λ (k : ℕ). k < length a.threads) e h in
-        let there : f (thread_at (with_thread a t th) t) ≡ f (thread_at a t) = ap f (thread_at-same a t th at_t) ∙ same in
-        subst (λ (k : ℕ). f (thread_at (with_thread a t th) k) ≡ f (thread_at a k)) (sym e) there)
-    | inr n ↦ ap f (thread_at-other a t u th n)
-    ]
+  | inl e ↦ (
+      let at_t : t < length a.threads = subst (λ (k : ℕ). k < length a.threads) e h in
+      let there : f (thread_at (with_thread a t th) t) ≡ f (thread_at a t) = ap f (thread_at-same a t th at_t) ∙ same in
+      subst (λ (k : ℕ). f (thread_at (with_thread a t th) k) ≡ f (thread_at a k)) (sym e) there)
+  | inr n ↦ ap f (thread_at-other a t u th n)
+]

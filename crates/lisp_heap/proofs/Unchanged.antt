@@ -24,13 +24,15 @@ WordsStand-same a b words objects pages s = record {
   spelled = subst (λ (os : List (Option Object)). (name : ℕ) → IfSome (object_at os name) (λ o. AreAt words o.place (spelling os o.contents))) (sym objects) s.spelled;
   fillers = subst (λ (os : List (Option Object)). (page i : ℕ) → i < fill_of (entry_at b.pages page) → ¬ IsOwned os (page_words * page + i) →
       slice_index words (page_words * page + i) ≡ filler_word) (sym objects)
-    (subst (λ (ps : List Entry). (page i : ℕ) → i < fill_of (entry_at ps page) → ¬ IsOwned a.objects (page_words * page + i) →
-      slice_index words (page_words * page + i) ≡ filler_word) (sym pages) s.fillers) }
+      (subst (λ (ps : List Entry). (page i : ℕ) → i < fill_of (entry_at ps page) → ¬ IsOwned a.objects (page_words * page + i) →
+      slice_index words (page_words * page + i) ≡ filler_word) (sym pages) s.fillers);
+}
 
 pub LabelsStand-same : (a b : NamedHeap) (labels : List ℕ) → b.objects ≡ a.objects → b.pages ≡ a.pages → LabelsStand a labels → LabelsStand b labels
 LabelsStand-same a b labels objects pages s = record {
   long = s.long ∙ ap (λ (ps : List Entry). 256 * length ps) (sym pages);
-  named = subst (λ (os : List (Option Object)). (name : ℕ) → IfSome (object_at os name) (λ o. slice_index labels (o.place / 2) ≡ name)) (sym objects) s.named }
+  named = subst (λ (os : List (Option Object)). (name : ℕ) → IfSome (object_at os name) (λ o. slice_index labels (o.place / 2) ≡ name)) (sym objects) s.named;
+}
 
 -- a write of a cell changes no object, no page and no state
 pub with_cell-objects : (a : NamedHeap) (t : ℕ) (cell : Cell) (v : Value) → (with_cell a t cell v).objects ≡ a.objects

@@ -24,8 +24,8 @@ opens_cons p a t c valid at e =
     let parts = next_parts p a t nexts.Open e (λ d. cc) (λ last d. cc) in
     let wished = next_with_command a t (command_at p a t) c nexts.Open at parts.1 in
     elim (script_wish p t (thread_at a t).done c valid at) [
-      inl nothing ↦ (let simple : nexts.Simple ≡ nexts.Open = subst (λ (w : Wish). next_for a t w ≡ nexts.Open) nothing wished in cc)
-    | inr cons ↦ cons
+      | inl nothing ↦ (let simple : nexts.Simple ≡ nexts.Open = subst (λ (w : Wish). next_for a t w ≡ nexts.Open) nothing wished in cc)
+      | inr cons ↦ cons
     ]
 
 -- and so does one that builds an object, which has room

@@ -29,9 +29,9 @@ pub cons_at : (a : NamedHeap) (words : List ℕ) (x : ℕ) (o : Object) (p q : V
     (slice_index words o.place ≡ word_of a.objects p) × (slice_index words (o.place + 1) ≡ word_of a.objects q)
 cons_at a words x o p q s there is =
     let spelled : AreAt words o.place (spelling a.objects o.contents) =
-      IfSome-at (λ o. AreAt words o.place (spelling a.objects o.contents)) (object_at a.objects x) o there (s.spelled x) in
+    IfSome-at (λ o. AreAt words o.place (spelling a.objects o.contents)) (object_at a.objects x) o there (s.spelled x) in
     let two : AreAt words o.place (spelling a.objects (ConsOf p q)) =
-      subst (λ (k : Contents). AreAt words o.place (spelling a.objects k)) is spelled in
+    subst (λ (k : Contents). AreAt words o.place (spelling a.objects k)) is spelled in
     let first : slice_index words (o.place + 0) ≡ word_of a.objects p = two 0 (omega arith) in
     let at_place : o.place + 0 ≡ o.place = omega arith in
     (subst (λ (k : ℕ). slice_index words k ≡ word_of a.objects p) at_place first, two 1 (omega arith))
@@ -47,7 +47,7 @@ pub cons_spelled : (objects : List (Option Object)) (words : List ℕ) (o : Obje
     AreAt words o.place (spelling objects o.contents)
 cons_spelled objects words o p q is hp hq =
     subst (λ (k : Contents). AreAt words o.place (spelling objects k)) (sym is)
-      (are_two words o.place (word_of objects p) (word_of objects q) hp hq)
+    (are_two words o.place (word_of objects p) (word_of objects q) hp hq)
 
 -- where no word is left over, fillers are none
 pub no_fillers : (p : Program) (a : NamedHeap) (words : List ℕ) → IsWellFormed p a → (page i : ℕ) → i < fill_of (entry_at a.pages page) →

@@ -61,7 +61,7 @@ command_is s h t state script c lt state_ok script_ok below c_ok =
     let same_script : script ≡ script_of s.program t = script_ok ∙ get_or_default s.program.threads t script _ lt in
     let found : slice_get script state.done ≡ Some c = slice_get_read script (length script) state.done c refl below c_ok in
     let at_place : slice_get script (thread_at (heap s) t).done ≡ Some c =
-      subst (λ (n : ℕ). slice_get script n ≡ Some c) (ap (λ (x : ThreadState). x.done) known) found in
+    subst (λ (n : ℕ). slice_get script n ≡ Some c) (ap (λ (x : ThreadState). x.done) known) found in
     sym (subst (λ (xs : List Command). slice_get xs (thread_at (heap s) t).done ≡ Some c) same_script at_place)
 
 pub no_command : (s : Inside) → IsSound s → (t : ℕ) (state : ThreadState) (script : List Command) → t < length s.program.threads →
@@ -72,7 +72,7 @@ no_command s h t state script lt state_ok script_ok past =
     let same_script : script ≡ script_of s.program t = script_ok ∙ get_or_default s.program.threads t script _ lt in
     let found : slice_get script state.done ≡ None = slice_get_past script state.done past in
     let at_place : slice_get script (thread_at (heap s) t).done ≡ None =
-      subst (λ (n : ℕ). slice_get script n ≡ None) (ap (λ (x : ThreadState). x.done) known) found in
+    subst (λ (n : ℕ). slice_get script n ≡ None) (ap (λ (x : ThreadState). x.done) known) found in
     sym (subst (λ (xs : List Command). slice_get xs (thread_at (heap s) t).done ≡ None) same_script at_place)
 
 -- a cell's word is that of its living value
@@ -105,11 +105,16 @@ cons_of s h name living =
     let two : words_of_object (found.0) ≡ 2 = cons_words (found.0) (parts.0) (parts.1) parts.2 in
     let inside : (found.0).place + 2 ≤ length s.space = omega (arith, placed.inside, two, h.holds.words.long) in
     record {
-      object = found.0; first = parts.0; second = parts.1; there = found.1; cons = parts.2;
+      object = found.0;
+      first = parts.0;
+      second = parts.1;
+      there = found.1;
+      cons = parts.2;
       word_is = ap word_of_object found.1 ∙ ap (λ (k : Contents). reference_word (found.0).place (kind_of k)) parts.2;
       even = placed.even;
       inside = inside;
-      below = omega (arith, inside, h.holds.words.long, (well_formed s h).pages_length, h.valid.pages_most) }
+      below = omega (arith, inside, h.holds.words.long, (well_formed s h).pages_length, h.valid.pages_most);
+    }
 
 -- the word of a cons is tagged, and so
 cons_tagged : (s : Inside) (name : ℕ) (k : ConsAt s name) (word : ℕ) → word ≡ word_of (heap s).objects (Ref name) →
@@ -128,6 +133,7 @@ tagged_once word i j x y h g = (same_index x y h g, same_tag x y h g)
         bits_small lowtags.List = omega arith
         bits_small lowtags.Function = omega arith
         bits_small lowtags.Other = omega arith
+
     same_tag : (x y : Lowtag) → IsTagged word i x → IsTagged word j y → tag_bits x ≡ tag_bits y
     same_tag x y h g = omega (arith, same_index x y h g, h.word_is, g.word_is)
 
@@ -195,8 +201,15 @@ label_there s h name k = omega (arith, h.holds.labels.long, h.holds.words.long, 
 -- a cons that was found, as the clauses say it
 pub as_cons : (s : Inside) (v : Value) (index : ℕ) (tag : Lowtag) → Found s v index tag → IsCons (heap s).objects v index
 as_cons s v index tag f = record {
-  name = f.name; object = f.at_cons.object; first = f.at_cons.first; second = f.at_cons.second;
-  value_is = f.value_is; there = f.at_cons.there; cons = f.at_cons.cons; place = f.place }
+  name = f.name;
+  object = f.at_cons.object;
+  first = f.at_cons.first;
+  second = f.at_cons.second;
+  value_is = f.value_is;
+  there = f.at_cons.there;
+  cons = f.at_cons.cons;
+  place = f.place;
+}
 
 -- a word that is tagged as a list is tagged so in every way
 pub listed_once : (word i j : ℕ) (x : Lowtag) → IsTagged word i x → IsTagged word j lowtags.List → x ≡ lowtags.List
@@ -208,7 +221,8 @@ pub cell_word_of : (s : Inside) (w : View) → IsSound s → view_of s ≡ w →
 cell_word_of s w h e t cell word lt is = record {
   value = cell_value (heap_of w) t cell;
   living = subst (λ (v : View). IsLiving (heap_of v).objects (cell_value (heap_of v) t cell)) e (cell_living_in s h t cell (thread_in s w e t lt));
-  word_is = is }
+  word_is = is;
+}
 
 pub cell_lives : (s : Inside) (w : View) → IsSound s → view_of s ≡ w → (t : ℕ) (cell : Cell) → t < length w.program.threads →
     IsLiving (heap_of w).objects (cell_value (heap_of w) t cell)
@@ -238,7 +252,8 @@ cons_words_in s h v index k =
       first = ap (slice_index s.space) k.place ∙ words.0;
       second = ap (λ (n : ℕ). slice_index s.space (n + 1)) k.place ∙ words.1;
       first_lives = lives.0;
-      second_lives = lives.1 }
+      second_lives = lives.1;
+    }
 
 pub cons_words_of : (s : Inside) (w : View) → IsSound s → view_of s ≡ w → (v : Value) (index : ℕ) → IsCons (heap_of w).objects v index → ConsWords s w v index
 cons_words_of s w h e v index k =

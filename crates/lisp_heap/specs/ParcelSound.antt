@@ -7,8 +7,13 @@ use Rattle.lisp_heap.specs.Parcels.{ParcelView}
 use Rattle.lisp_heap.specs.declared.parcels.Parcel.TheInside.{Inside}
 
 abbrev pub parcel_view : Inside → ParcelView
-parcel_view s = record { owner = s.owner; cons = option_map region_view s.cons; boxed = option_map region_view s.boxed;
-  unboxed = option_map region_view s.unboxed; run = option_map region_view s.run }
+parcel_view s = record {
+  owner = s.owner;
+  cons = option_map region_view s.cons;
+  boxed = option_map region_view s.boxed;
+  unboxed = option_map region_view s.unboxed;
+  run = option_map region_view s.run;
+}
 
 -- its small regions are of their types, and each says what is built there
 pub record IsParcel (s : Inside) : Type 0 where

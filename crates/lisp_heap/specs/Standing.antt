@@ -14,9 +14,9 @@ pub record CellsStand (a : NamedHeap) (v : CellsView) : Type 0 where
   pub exact_length : length v.exact ≡ 16 * length a.threads
   pub shared_length : length v.shared ≡ 16
   pub stack : (t i : ℕ) → t < length a.threads → i < 16 →
-    slice_index v.stack (spot t i) ≡ word_of a.objects (slice_index_or (thread_at a t).stack i zero_value)
+      slice_index v.stack (spot t i) ≡ word_of a.objects (slice_index_or (thread_at a t).stack i zero_value)
   pub exact : (t i : ℕ) → t < length a.threads → i < 16 →
-    slice_index v.exact (spot t i) ≡ word_of a.objects (slice_index_or (thread_at a t).exact i zero_value)
+      slice_index v.exact (spot t i) ≡ word_of a.objects (slice_index_or (thread_at a t).exact i zero_value)
   pub shared : (i : ℕ) → i < 16 → slice_index v.shared i ≡ word_of a.objects (slice_index_or a.shared i zero_value)
 
 -- the label at each object's first double word is its name

@@ -10,8 +10,14 @@ fresh_state = record { done = 0; ended = false; cons_page = None; boxed_page = N
 
 -- what the World keeps of a thread of the named heap
 abbrev pub state_of : Thread → ThreadState
-state_of th = record { done = th.done; ended = th.ended; cons_page = th.cons_page; boxed_page = th.boxed_page;
-  unboxed_page = th.unboxed_page; open_run = th.open_run }
+state_of th = record {
+  done = th.done;
+  ended = th.ended;
+  cons_page = th.cons_page;
+  boxed_page = th.boxed_page;
+  unboxed_page = th.unboxed_page;
+  open_run = th.open_run;
+}
 
 abbrev pub state_page : ThreadState → PageType → Option ℕ
 state_page s types.Cons = s.cons_page

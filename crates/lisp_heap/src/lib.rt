@@ -12,7 +12,7 @@ mod reading;
 mod states;
 mod world;
 
-pub use heap_terms::Next;
 pub use allocating::Lent;
+pub use heap_terms::Next;
 pub use parcels::Parcel;
 pub use world::World;

@@ -17,4 +17,4 @@ pub returns : goal.returns
 returns c =
     let lt = thread_in c.self.inside c.args.self.now c.self.view_is c.args.t c.requires.thread in
     subst (λ (w : View). c.read.result ≡ word_of (heap_of w).objects (cell_value (heap_of w) c.args.t c.args.cell)) c.self.view_is
-      (c.read.ensures ∙ cell_is c.self.inside c.self.invariant c.args.t c.args.cell lt c.requires.cell)
+    (c.read.ensures ∙ cell_is c.self.inside c.self.invariant c.args.t c.args.cell lt c.requires.cell)

@@ -14,12 +14,12 @@ pub returns-then-done-len : goal.returns-then-done-len
 returns-then-done-len c =
     let lt = thread_in c.self.inside c.args.self.now c.self.view_is c.args.t c.requires in
     subst (λ (w : View). Some c.at.result ≡ command_at w.program (heap_of w) c.args.t) c.self.view_is
-      (command_is c.self.inside c.self.invariant c.args.t c.at-done.result c.item-script.result.now c.at.result lt
-        c.at-done.ensures c.item-script.ensures (omega (arith, c.if-done-len.true, c.len.ensures)) c.at.ensures)
+    (command_is c.self.inside c.self.invariant c.args.t c.at-done.result c.item-script.result.now c.at.result lt
+    c.at-done.ensures c.item-script.ensures (omega (arith, c.if-done-len.true, c.len.ensures)) c.at.ensures)
 
 pub returns-else-done-len : goal.returns-else-done-len
 returns-else-done-len c =
     let lt = thread_in c.self.inside c.args.self.now c.self.view_is c.args.t c.requires in
     subst (λ (w : View). None ≡ command_at w.program (heap_of w) c.args.t) c.self.view_is
-      (no_command c.self.inside c.self.invariant c.args.t c.at-done.result c.item-script.result.now lt
-        c.at-done.ensures c.item-script.ensures (omega (arith, c.if-done-len.false, c.len.ensures)))
+    (no_command c.self.inside c.self.invariant c.args.t c.at-done.result c.item-script.result.now lt
+    c.at-done.ensures c.item-script.ensures (omega (arith, c.if-done-len.false, c.len.ensures)))

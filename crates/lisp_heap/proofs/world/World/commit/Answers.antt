@@ -37,14 +37,14 @@ next_cons-index-requires c =
 pub place-requires-clause-builds : goal.place-requires-clause-builds
 place-requires-clause-builds c =
     subst (λ (n : ℕ). next_of c.args.self.now n ≡ nexts.Build kinds.Cons 2 0) (sym c.owner-t.ensures)
-      (built_cons c.self.inside c.args.self.now c.self.invariant c.self.view_is c.args.parcel.now c.requires.thread c.requires.built).0
+    (built_cons c.self.inside c.args.self.now c.self.invariant c.self.view_is c.args.parcel.now c.requires.thread c.requires.built).0
 
 pub place-requires-clause-place : goal.place-requires-clause-place
 place-requires-clause-place c =
     subst (λ (n : ℕ). c.next_cons-index.result ≡ place_for (heap_of c.args.self.now) n kinds.Cons 2) (sym c.owner-t.ensures)
-      (built_place c.self.inside c.args.self.now c.self.invariant c.self.view_is c.args.parcel.now c.next_cons-index.result c.requires.thread
-        (built_cons c.self.inside c.args.self.now c.self.invariant c.self.view_is c.args.parcel.now c.requires.thread c.requires.built).0
-        c.requires.agrees c.next_cons-index.ensures)
+    (built_place c.self.inside c.args.self.now c.self.invariant c.self.view_is c.args.parcel.now c.next_cons-index.result c.requires.thread
+    (built_cons c.self.inside c.args.self.now c.self.invariant c.self.view_is c.args.parcel.now c.requires.thread c.requires.built).0
+    c.requires.agrees c.next_cons-index.ensures)
 
 pub accept_cons-requires : goal.accept_cons-requires
 accept_cons-requires c =

@@ -12,5 +12,5 @@ pub returns : goal.returns
 returns c =
     let same : to_z w64 (of_z w64 c.args.n) ≡ c.args.n = to_z-of_z w64 c.args.n c.ranges.n in
     let said = IfSome-at (λ (word : ℕ). (word ≡ fixnum_word (to_z w64 (of_z w64 c.args.n))) × IsFixnum (to_z w64 (of_z w64 c.args.n)))
-      c.fixnum.result c.unwrap-word.result c.unwrap-word.ensures c.fixnum.ensures.word in
+    c.fixnum.result c.unwrap-word.result c.unwrap-word.ensures c.fixnum.ensures.word in
     fixed_is (heap_of c.args.self.now) c.args.t c.args.d c.args.n c.unwrap-word.result c.requires.d (said.0 ∙ ap fixnum_word same)

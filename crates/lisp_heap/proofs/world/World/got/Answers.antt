@@ -33,34 +33,34 @@ returns-in_default c =
     let living = cell_lives c.self.inside c.args.self.now c.self.invariant c.self.view_is c.args.t c.args.c c.requires.thread in
     let none = c.in_default.ensures (cell_value (heap_of c.args.self.now) c.args.t c.args.c) living c.cell-of.ensures in
     subst (λ (o : Outcome). IsOutcome (heap_of c.args.self.now) c.args.t (commands.Get c.args.d c.args.c c.args.i) o.answer o.change) (sym c.refused.ensures)
-      (got_none (heap_of c.args.self.now) c.args.t c.args.d c.args.c c.args.i none)
+    (got_none (heap_of c.args.self.now) c.args.t c.args.d c.args.c c.args.i none)
 
 pub returns-then-i-ge2 : goal.returns-then-i-ge2
 returns-then-i-ge2 c =
     let living = cell_lives c.self.inside c.args.self.now c.self.invariant c.self.view_is c.args.t c.args.c c.requires.thread in
     let k = c.in-Some.ensures (cell_value (heap_of c.args.self.now) c.args.t c.args.c) living c.cell-of.ensures in
     subst (λ (o : Outcome). IsOutcome (heap_of c.args.self.now) c.args.t (commands.Get c.args.d c.args.c c.args.i) o.answer o.change) (sym c.refused-then-i-ge2.ensures)
-      (got_out (heap_of c.args.self.now) c.args.t c.args.d c.args.c c.args.i c.in-Some.index k c.if-i-ge2.true)
+    (got_out (heap_of c.args.self.now) c.args.t c.args.d c.args.c c.args.i c.in-Some.index k c.if-i-ge2.true)
 
 pub overflow_add-index : goal.overflow_add-index
 overflow_add-index c =
     let living = cell_lives c.self.inside c.args.self.now c.self.invariant c.self.view_is c.args.t c.args.c c.requires.thread in
     let k = cons_words_of c.self.inside c.args.self.now c.self.invariant c.self.view_is (cell_value (heap_of c.args.self.now) c.args.t c.args.c) c.in-Some.index
-      (c.in-Some.ensures (cell_value (heap_of c.args.self.now) c.args.t c.args.c) living c.cell-of.ensures) in
+    (c.in-Some.ensures (cell_value (heap_of c.args.self.now) c.args.t c.args.c) living c.cell-of.ensures) in
     omega (arith, k.small, c.if-i-ge2.false)
 
 pub read-word-requires : goal.read-word-requires
 read-word-requires c =
     let living = cell_lives c.self.inside c.args.self.now c.self.invariant c.self.view_is c.args.t c.args.c c.requires.thread in
     let k = cons_words_of c.self.inside c.args.self.now c.self.invariant c.self.view_is (cell_value (heap_of c.args.self.now) c.args.t c.args.c) c.in-Some.index
-      (c.in-Some.ensures (cell_value (heap_of c.args.self.now) c.args.t c.args.c) living c.cell-of.ensures) in
+    (c.in-Some.ensures (cell_value (heap_of c.args.self.now) c.args.t c.args.c) living c.cell-of.ensures) in
     omega (arith, k.inside, c.if-i-ge2.false)
 
 pub value_of-requires : goal.value_of-requires
 value_of-requires c =
     let living = cell_lives c.self.inside c.args.self.now c.self.invariant c.self.view_is c.args.t c.args.c c.requires.thread in
     let k = cons_words_of c.self.inside c.args.self.now c.self.invariant c.self.view_is (cell_value (heap_of c.args.self.now) c.args.t c.args.c) c.in-Some.index
-      (c.in-Some.ensures (cell_value (heap_of c.args.self.now) c.args.t c.args.c) living c.cell-of.ensures) in
+    (c.in-Some.ensures (cell_value (heap_of c.args.self.now) c.args.t c.args.c) living c.cell-of.ensures) in
     let field = at_field c.self.inside c.args.self.now (cell_value (heap_of c.args.self.now) c.args.t c.args.c) c.in-Some.index c.args.i k c.if-i-ge2.false in
     record { value = field_of k.cons c.args.i; living = field.1; word_is = c.read-word.ensures ∙ field.0 }
 
@@ -68,7 +68,7 @@ pub returns : goal.returns
 returns c =
     let living = cell_lives c.self.inside c.args.self.now c.self.invariant c.self.view_is c.args.t c.args.c c.requires.thread in
     let k = cons_words_of c.self.inside c.args.self.now c.self.invariant c.self.view_is (cell_value (heap_of c.args.self.now) c.args.t c.args.c) c.in-Some.index
-      (c.in-Some.ensures (cell_value (heap_of c.args.self.now) c.args.t c.args.c) living c.cell-of.ensures) in
+    (c.in-Some.ensures (cell_value (heap_of c.args.self.now) c.args.t c.args.c) living c.cell-of.ensures) in
     let field = at_field c.self.inside c.args.self.now (cell_value (heap_of c.args.self.now) c.args.t c.args.c) c.in-Some.index c.args.i k c.if-i-ge2.false in
     got_is (heap_of c.args.self.now) c.args.t c.args.d c.args.c c.args.i c.in-Some.index c.read-word.result c.value_of.result k.cons c.if-i-ge2.false c.requires.d
-      (c.value_of.ensures (field_of k.cons c.args.i) field.1 (c.read-word.ensures ∙ field.0)) (c.read-word.ensures ∙ field.0)
+    (c.value_of.ensures (field_of k.cons c.args.i) field.1 (c.read-word.ensures ∙ field.0)) (c.read-word.ensures ∙ field.0)

@@ -5,5 +5,8 @@ use Rattle.lisp_heap.proofs.world.World.has_room.Goals as goal
 
 pub overflow_add-result : goal.overflow_add-result
 overflow_add-result c =
-    omega (arith, fill_small c.self.inside c.self.invariant c.in-Some.page c.in-Used.ty c.in-Used.generation c.in-Used.fill c.in-Used.run_first c.in-Used.run_pages
-      (sym c.in-Used.is ∙ c.entry.ensures))
+    omega (
+      arith,
+      fill_small c.self.inside c.self.invariant c.in-Some.page c.in-Used.ty c.in-Used.generation c.in-Used.fill c.in-Used.run_first c.in-Used.run_pages
+          (sym c.in-Used.is ∙ c.entry.ensures),
+    )

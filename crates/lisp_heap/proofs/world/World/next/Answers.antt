@@ -29,7 +29,7 @@ returns-then-state-clause-next c =
     let lt = thread_in c.self.inside c.args.self.now c.self.view_is c.args.t c.requires in
     let state = state_is c.self.inside c.self.invariant c.args.t c.at-state.result lt c.at-state.ensures in
     subst (λ (w : View). nexts.Done ≡ next_of w c.args.t) c.self.view_is
-      (next_done c.self.inside.program (heap c.self.inside) c.args.t (ap (λ (x : ThreadState). x.ended) (sym state) ∙ c.if-state.true))
+    (next_done c.self.inside.program (heap c.self.inside) c.args.t (ap (λ (x : ThreadState). x.ended) (sym state) ∙ c.if-state.true))
 
 -- an alive thread's next is that of its command
 alive : (s : Inside) (w : View) (t : ℕ) (state : ThreadState) (o : Option Command) (n : Next) → IsSound s → view_of s ≡ w → t < length s.program.threads →
@@ -37,45 +37,46 @@ alive : (s : Inside) (w : View) (t : ℕ) (state : ThreadState) (o : Option Comm
     n ≡ next_command (heap_of w) t o → n ≡ next_of w t
 alive s w t state o n h view lt known going at is =
     is ∙ ap (next_command (heap_of w) t) at
-      ∙ subst (λ (x : View). next_command (heap_of x) t (command_at x.program (heap_of x) t) ≡ next_of x t) view
-        (next_alive s.program (heap s) t (ap (λ (x : ThreadState). x.ended) (sym known) ∙ going) ((well_formed s h).owes_nothing t))
+    ∙ subst (λ (x : View). next_command (heap_of x) t (command_at x.program (heap_of x) t) ≡ next_of x t) view
+    (next_alive s.program (heap s) t (ap (λ (x : ThreadState). x.ended) (sym known) ∙ going) ((well_formed s h).owes_nothing t))
 
 pub next_for-requires : goal.next_for-requires
 next_for-requires c =
     let lt = thread_in c.self.inside c.args.self.now c.self.view_is c.args.t c.requires in
     let state = state_is c.self.inside c.self.invariant c.args.t c.at-state.result lt c.at-state.ensures in
     let at : command_at c.self.inside.program (heap c.self.inside) c.args.t ≡ Some c.in-Some.command =
-      subst (λ (w : View). command_at w.program (heap_of w) c.args.t ≡ Some c.in-Some.command) (sym c.self.view_is) (sym c.command.ensures ∙ c.in-Some.is) in
+    subst (λ (w : View). command_at w.program (heap_of w) c.args.t ≡ Some c.in-Some.command) (sym c.self.view_is) (sym c.command.ensures ∙ c.in-Some.is) in
     subst (λ (w : View). Wishes (heap_of w) c.at-state.result c.in-Some.command) c.self.view_is (record {
       page = λ page e. open_page_below c.self.inside.program (heap c.self.inside) c.args.t types.Cons (well_formed c.self.inside c.self.invariant) page
-        (ap (λ (x : ThreadState). x.cons_page) (sym state) ∙ e);
-      built = (script_command c.self.inside.program c.args.t (thread_at (heap c.self.inside) c.args.t).done c.in-Some.command c.self.invariant.valid at).built })
+          (ap (λ (x : ThreadState). x.cons_page) (sym state) ∙ e);
+      built = (script_command c.self.inside.program c.args.t (thread_at (heap c.self.inside) c.args.t).done c.in-Some.command c.self.invariant.valid at).built;
+    })
 
 pub returns-in-None-clause-next : goal.returns-in-None-clause-next
 returns-in-None-clause-next c =
     let lt = thread_in c.self.inside c.args.self.now c.self.view_is c.args.t c.requires in
     let state = state_is c.self.inside c.self.invariant c.args.t c.at-state.result lt c.at-state.ensures in
     alive c.self.inside c.args.self.now c.args.t c.at-state.result None nexts.End c.self.invariant c.self.view_is lt state c.if-state.false
-      (sym c.in-None.is ∙ c.command.ensures) refl
+    (sym c.in-None.is ∙ c.command.ensures) refl
 
 pub returns-in-Some-clause-next : goal.returns-in-Some-clause-next
 returns-in-Some-clause-next c =
     let lt = thread_in c.self.inside c.args.self.now c.self.view_is c.args.t c.requires in
     let state = state_is c.self.inside c.self.invariant c.args.t c.at-state.result lt c.at-state.ensures in
     let state_there : c.at-state.result ≡ state_of (thread_at (heap_of c.args.self.now) c.args.t) =
-      subst (λ (w : View). c.at-state.result ≡ state_of (thread_at (heap_of w) c.args.t)) c.self.view_is state in
+    subst (λ (w : View). c.at-state.result ≡ state_of (thread_at (heap_of w) c.args.t)) c.self.view_is state in
     alive c.self.inside c.args.self.now c.args.t c.at-state.result (Some c.in-Some.command) c.next_for.result c.self.invariant c.self.view_is lt state c.if-state.false
-      (sym c.in-Some.is ∙ c.command.ensures) (c.next_for.ensures c.args.t state_there)
+    (sym c.in-Some.is ∙ c.command.ensures) (c.next_for.ensures c.args.t state_there)
 
 pub returns-in-Some-clause-room : goal.returns-in-Some-clause-room
 returns-in-Some-clause-room c = λ q owner agrees. (
     let lt = thread_in c.self.inside c.args.self.now c.self.view_is c.args.t c.requires in
     let state = state_is c.self.inside c.self.invariant c.args.t c.at-state.result lt c.at-state.ensures in
     let state_there : c.at-state.result ≡ state_of (thread_at (heap_of c.args.self.now) c.args.t) =
-      subst (λ (w : View). c.at-state.result ≡ state_of (thread_at (heap_of w) c.args.t)) c.self.view_is state in
+    subst (λ (w : View). c.at-state.result ≡ state_of (thread_at (heap_of w) c.args.t)) c.self.view_is state in
     let at : command_at c.self.inside.program (heap c.self.inside) c.args.t ≡ Some c.in-Some.command =
-      subst (λ (w : View). command_at w.program (heap_of w) c.args.t ≡ Some c.in-Some.command) (sym c.self.view_is) (sym c.command.ensures ∙ c.in-Some.is) in
+    subst (λ (w : View). command_at w.program (heap_of w) c.args.t ≡ Some c.in-Some.command) (sym c.self.view_is) (sym c.command.ensures ∙ c.in-Some.is) in
     let built : Agrees (heap_of c.args.self.now) q → CanBuild (next_for (heap_of c.args.self.now) c.args.t (wish_of c.in-Some.command)) q =
-      subst (λ (w : View). Agrees (heap_of w) q → CanBuild (next_for (heap_of w) c.args.t (wish_of c.in-Some.command)) q) c.self.view_is
-        (can_build c.self.inside.program (heap c.self.inside) c.args.t c.in-Some.command q c.self.invariant.valid at owner) in
+    subst (λ (w : View). Agrees (heap_of w) q → CanBuild (next_for (heap_of w) c.args.t (wish_of c.in-Some.command)) q) c.self.view_is
+    (can_build c.self.inside.program (heap c.self.inside) c.args.t c.in-Some.command q c.self.invariant.valid at owner) in
     subst (λ (n : Next). CanBuild n q) (sym (c.next_for.ensures c.args.t state_there)) (built agrees))

@@ -54,13 +54,27 @@ invariant_of-self-2 c =
     let found = IsSome-value (command_at s.program (heap s) c.args.t) (open_command s.program (heap s) c.args.t opens) in
     let lowest = subst (λ (w : View). IsLowestRun (heap_of w).pages c.args.first 1) (sym c.self.view_is) c.requires.run in
     let e = Opened c.args.t types.Cons c.args.first 1 in
-    let now : Inside = record { program = s.program; space = s.space; pages = c.take_run.new.self; labels = s.labels; cells = s.cells;
-      states = c.open_cons.new.states; commits = s.commits; history = c.push.new.self } in
+    let now : Inside = record {
+      program = s.program;
+      space = s.space;
+      pages = c.take_run.new.self;
+      labels = s.labels;
+      cells = s.cells;
+      states = c.open_cons.new.states;
+      commits = s.commits;
+      history = c.push.new.self;
+    } in
     let added : c.push.new.self.items ≡ c.reserve.new.self.items ++ e ∷ [] = rw c.unwrap.ensures at c.push.ensures.items in
     let pushed : c.push.new.self.items ≡ s.history.items ++ e ∷ [] = added ∙ ap (λ (es : List Event). es ++ e ∷ []) c.reserve.ensures.items in
     let held : Holds (after s.program (heap s) e) (record {
-        words = s.space; pages = c.take_run.new.self; labels = s.labels; cells = s.cells; states = c.open_cons.new.states; commits = s.commits }) =
-      rw (c.take_run.ensures.opened refl, c.open_cons.ensures) (opened_holds s c.self.invariant c.args.t (found.0) c.args.first lt found.1 opens lowest) in
+      words = s.space;
+      pages = c.take_run.new.self;
+      labels = s.labels;
+      cells = s.cells;
+      states = c.open_cons.new.states;
+      commits = s.commits;
+    }) =
+    rw (c.take_run.ensures.opened refl, c.open_cons.ensures) (opened_holds s c.self.invariant c.args.t (found.0) c.args.first lt found.1 opens lowest) in
     sound_after s now e c.self.invariant refl pushed (opened_next s c.self.invariant c.args.t (found.0) c.args.first lt found.1 opens lowest) held
 
 pub returns-clause-ok : goal.returns-clause-ok
@@ -71,8 +85,16 @@ returns-clause-ok c =
     let found = IsSome-value (command_at s.program (heap s) c.args.t) (open_command s.program (heap s) c.args.t opens) in
     let lowest = subst (λ (w : View). IsLowestRun (heap_of w).pages c.args.first 1) (sym c.self.view_is) c.requires.run in
     let e = Opened c.args.t types.Cons c.args.first 1 in
-    let now : Inside = record { program = s.program; space = s.space; pages = c.take_run.new.self; labels = s.labels; cells = s.cells;
-      states = c.open_cons.new.states; commits = s.commits; history = c.push.new.self } in
+    let now : Inside = record {
+      program = s.program;
+      space = s.space;
+      pages = c.take_run.new.self;
+      labels = s.labels;
+      cells = s.cells;
+      states = c.open_cons.new.states;
+      commits = s.commits;
+      history = c.push.new.self;
+    } in
     let added : c.push.new.self.items ≡ c.reserve.new.self.items ++ e ∷ [] = rw c.unwrap.ensures at c.push.ensures.items in
     let pushed : c.push.new.self.items ≡ s.history.items ++ e ∷ [] = added ∙ ap (λ (es : List Event). es ++ e ∷ []) c.reserve.ensures.items in
     happens_after s now c.args.self.now c.args.t e c.self.view_is refl pushed refl (opened_next s c.self.invariant c.args.t (found.0) c.args.first lt found.1 opens lowest)
@@ -85,8 +107,16 @@ returns-clause-agrees c = λ q owner. (
     let found = IsSome-value (command_at s.program (heap s) c.args.t) (open_command s.program (heap s) c.args.t opens) in
     let lowest = subst (λ (w : View). IsLowestRun (heap_of w).pages c.args.first 1) (sym c.self.view_is) c.requires.run in
     let e = Opened c.args.t types.Cons c.args.first 1 in
-    let now : Inside = record { program = s.program; space = s.space; pages = c.take_run.new.self; labels = s.labels; cells = s.cells;
-      states = c.open_cons.new.states; commits = s.commits; history = c.push.new.self } in
+    let now : Inside = record {
+      program = s.program;
+      space = s.space;
+      pages = c.take_run.new.self;
+      labels = s.labels;
+      cells = s.cells;
+      states = c.open_cons.new.states;
+      commits = s.commits;
+      history = c.push.new.self;
+    } in
     let added : c.push.new.self.items ≡ c.reserve.new.self.items ++ e ∷ [] = rw c.unwrap.ensures at c.push.ensures.items in
     let pushed : c.push.new.self.items ≡ s.history.items ++ e ∷ [] = added ∙ ap (λ (es : List Event). es ++ e ∷ []) c.reserve.ensures.items in
     agrees_after s now c.args.self.now e q (with_cons q c.args.first) c.self.view_is refl pushed (opened_agrees s c.self.invariant c.args.t (found.0) c.args.first lt found.1 opens lowest q owner))
@@ -99,8 +129,16 @@ returns-clause-others c = λ q other. (
     let found = IsSome-value (command_at s.program (heap s) c.args.t) (open_command s.program (heap s) c.args.t opens) in
     let lowest = subst (λ (w : View). IsLowestRun (heap_of w).pages c.args.first 1) (sym c.self.view_is) c.requires.run in
     let e = Opened c.args.t types.Cons c.args.first 1 in
-    let now : Inside = record { program = s.program; space = s.space; pages = c.take_run.new.self; labels = s.labels; cells = s.cells;
-      states = c.open_cons.new.states; commits = s.commits; history = c.push.new.self } in
+    let now : Inside = record {
+      program = s.program;
+      space = s.space;
+      pages = c.take_run.new.self;
+      labels = s.labels;
+      cells = s.cells;
+      states = c.open_cons.new.states;
+      commits = s.commits;
+      history = c.push.new.self;
+    } in
     let added : c.push.new.self.items ≡ c.reserve.new.self.items ++ e ∷ [] = rw c.unwrap.ensures at c.push.ensures.items in
     let pushed : c.push.new.self.items ≡ s.history.items ++ e ∷ [] = added ∙ ap (λ (es : List Event). es ++ e ∷ []) c.reserve.ensures.items in
     agrees_after s now c.args.self.now e q q c.self.view_is refl pushed (opened_others s c.self.invariant c.args.t (found.0) c.args.first lt found.1 opens lowest q other))

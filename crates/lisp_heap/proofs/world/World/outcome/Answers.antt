@@ -11,6 +11,6 @@ use Rattle.lisp_heap.proofs.world.World.outcome.Goals as goal
 pub unreachable-requires : goal.unreachable-requires
 unreachable-requires c =
     one_of_four c.self.inside.program (heap_of (view_of c.self.inside)) c.args.t c.args.command c.self.invariant.valid
-      (subst (λ (w : View). command_at w.program (heap_of w) c.args.t ≡ Some c.args.command) (sym c.self.view_is) c.requires.command)
-      (subst (λ (w : View). next_of w c.args.t ≡ nexts.Simple) (sym c.self.view_is) c.requires.simple)
-      c.in_default.not-Fix c.in_default.not-Get c.in_default.not-Put c.in_default.not-Show
+    (subst (λ (w : View). command_at w.program (heap_of w) c.args.t ≡ Some c.args.command) (sym c.self.view_is) c.requires.command)
+    (subst (λ (w : View). next_of w c.args.t ≡ nexts.Simple) (sym c.self.view_is) c.requires.simple)
+    c.in_default.not-Fix c.in_default.not-Get c.in_default.not-Put c.in_default.not-Show

@@ -20,15 +20,15 @@ use Rattle.lisp_heap.proofs.world.World.perform.Goals as goal
 pub unwrap-command-requires : goal.unwrap-command-requires
 unwrap-command-requires c =
     subst (λ (o : Option Command). IsSome o) (sym c.command.ensures)
-      (subst (λ (w : View). IsSome (command_at w.program (heap_of w) c.args.t)) c.self.view_is
-        (has_command c.self.inside c.args.t (subst (λ (w : View). next_of w c.args.t ≡ nexts.Simple) (sym c.self.view_is) c.requires.simple)))
+    (subst (λ (w : View). IsSome (command_at w.program (heap_of w) c.args.t)) c.self.view_is
+    (has_command c.self.inside c.args.t (subst (λ (w : View). next_of w c.args.t ≡ nexts.Simple) (sym c.self.view_is) c.requires.simple)))
 
 pub apply-requires : goal.apply-requires
 apply-requires c =
     let s = c.self.inside in
     let lt = thread_in s c.args.self.now c.self.view_is c.args.t c.requires.thread in
     let at : command_at s.program (heap s) c.args.t ≡ Some c.unwrap-command.result =
-      subst (λ (w : View). command_at w.program (heap_of w) c.args.t ≡ Some c.unwrap-command.result) (sym c.self.view_is) (sym c.command.ensures ∙ c.unwrap-command.ensures) in
+    subst (λ (w : View). command_at w.program (heap_of w) c.args.t ≡ Some c.unwrap-command.result) (sym c.self.view_is) (sym c.command.ensures ∙ c.unwrap-command.ensures) in
     let simple = subst (λ (w : View). next_of w c.args.t ≡ nexts.Simple) (sym c.self.view_is) c.requires.simple in
     let is = subst (λ (w : View). IsOutcome (heap_of w) c.args.t c.unwrap-command.result c.outcome-answer.result.answer c.outcome-answer.result.change) (sym c.self.view_is) c.outcome-answer.ensures in
     record { cells = can_change s c.self.invariant c.args.t c.unwrap-command.result c.outcome-answer.result.answer c.outcome-answer.result.change lt at simple is }
@@ -42,7 +42,7 @@ advance-requires-clause-room c =
     let s = c.self.inside in
     let lt = thread_in s c.args.self.now c.self.view_is c.args.t c.requires.thread in
     let at : command_at s.program (heap s) c.args.t ≡ Some c.unwrap-command.result =
-      subst (λ (w : View). command_at w.program (heap_of w) c.args.t ≡ Some c.unwrap-command.result) (sym c.self.view_is) (sym c.command.ensures ∙ c.unwrap-command.ensures) in
+    subst (λ (w : View). command_at w.program (heap_of w) c.args.t ≡ Some c.unwrap-command.result) (sym c.self.view_is) (sym c.command.ensures ∙ c.unwrap-command.ensures) in
     state_room s c.self.invariant c.args.t c.unwrap-command.result lt at
 
 pub invariant_of-self-2 : goal.invariant_of-self-2
@@ -50,43 +50,73 @@ invariant_of-self-2 c =
     let s = c.self.inside in
     let lt = thread_in s c.args.self.now c.self.view_is c.args.t c.requires.thread in
     let at : command_at s.program (heap s) c.args.t ≡ Some c.unwrap-command.result =
-      subst (λ (w : View). command_at w.program (heap_of w) c.args.t ≡ Some c.unwrap-command.result) (sym c.self.view_is) (sym c.command.ensures ∙ c.unwrap-command.ensures) in
+    subst (λ (w : View). command_at w.program (heap_of w) c.args.t ≡ Some c.unwrap-command.result) (sym c.self.view_is) (sym c.command.ensures ∙ c.unwrap-command.ensures) in
     let simple = subst (λ (w : View). next_of w c.args.t ≡ nexts.Simple) (sym c.self.view_is) c.requires.simple in
     let is = subst (λ (w : View). IsOutcome (heap_of w) c.args.t c.unwrap-command.result c.outcome-answer.result.answer c.outcome-answer.result.change) (sym c.self.view_is) c.outcome-answer.ensures in
     let e = Did c.args.t c.unwrap-command.result c.outcome-answer.result.answer in
-    let now : Inside = record { program = s.program; space = c.apply.new.space; pages = s.pages; labels = s.labels; cells = c.apply.new.cells;
-      states = c.advance.new.states; commits = s.commits; history = c.push.new.self } in
+    let now : Inside = record {
+      program = s.program;
+      space = c.apply.new.space;
+      pages = s.pages;
+      labels = s.labels;
+      cells = c.apply.new.cells;
+      states = c.advance.new.states;
+      commits = s.commits;
+      history = c.push.new.self;
+    } in
     let held : Holds (after s.program (heap s) e) (record {
-        words = c.apply.new.space; pages = s.pages; labels = s.labels; cells = c.apply.new.cells; states = c.advance.new.states; commits = s.commits }) =
-      rw (c.apply.ensures.cells, c.apply.ensures.words, c.advance.ensures)
-        (did_holds s c.self.invariant c.args.t c.unwrap-command.result c.outcome-answer.result.answer c.outcome-answer.result.change lt at simple is) in
+      words = c.apply.new.space;
+      pages = s.pages;
+      labels = s.labels;
+      cells = c.apply.new.cells;
+      states = c.advance.new.states;
+      commits = s.commits;
+    }) =
+    rw (c.apply.ensures.cells, c.apply.ensures.words, c.advance.ensures)
+    (did_holds s c.self.invariant c.args.t c.unwrap-command.result c.outcome-answer.result.answer c.outcome-answer.result.change lt at simple is) in
     sound_after s now e c.self.invariant refl c.in_ok-push.ensures.items
-      (did_next s c.self.invariant c.args.t c.unwrap-command.result c.outcome-answer.result.answer c.outcome-answer.result.change lt at simple is) held
+    (did_next s c.self.invariant c.args.t c.unwrap-command.result c.outcome-answer.result.answer c.outcome-answer.result.change lt at simple is) held
 
 pub returns-clause-ok : goal.returns-clause-ok
 returns-clause-ok c =
     let s = c.self.inside in
     let lt = thread_in s c.args.self.now c.self.view_is c.args.t c.requires.thread in
     let at : command_at s.program (heap s) c.args.t ≡ Some c.unwrap-command.result =
-      subst (λ (w : View). command_at w.program (heap_of w) c.args.t ≡ Some c.unwrap-command.result) (sym c.self.view_is) (sym c.command.ensures ∙ c.unwrap-command.ensures) in
+    subst (λ (w : View). command_at w.program (heap_of w) c.args.t ≡ Some c.unwrap-command.result) (sym c.self.view_is) (sym c.command.ensures ∙ c.unwrap-command.ensures) in
     let simple = subst (λ (w : View). next_of w c.args.t ≡ nexts.Simple) (sym c.self.view_is) c.requires.simple in
     let is = subst (λ (w : View). IsOutcome (heap_of w) c.args.t c.unwrap-command.result c.outcome-answer.result.answer c.outcome-answer.result.change) (sym c.self.view_is) c.outcome-answer.ensures in
     let e = Did c.args.t c.unwrap-command.result c.outcome-answer.result.answer in
-    let now : Inside = record { program = s.program; space = c.apply.new.space; pages = s.pages; labels = s.labels; cells = c.apply.new.cells;
-      states = c.advance.new.states; commits = s.commits; history = c.push.new.self } in
+    let now : Inside = record {
+      program = s.program;
+      space = c.apply.new.space;
+      pages = s.pages;
+      labels = s.labels;
+      cells = c.apply.new.cells;
+      states = c.advance.new.states;
+      commits = s.commits;
+      history = c.push.new.self;
+    } in
     happens_after s now c.args.self.now c.args.t e c.self.view_is refl c.in_ok-push.ensures.items refl
-      (did_next s c.self.invariant c.args.t c.unwrap-command.result c.outcome-answer.result.answer c.outcome-answer.result.change lt at simple is)
+    (did_next s c.self.invariant c.args.t c.unwrap-command.result c.outcome-answer.result.answer c.outcome-answer.result.change lt at simple is)
 
 pub returns-clause-others : goal.returns-clause-others
 returns-clause-others c = λ q. (
     let s = c.self.inside in
     let lt = thread_in s c.args.self.now c.self.view_is c.args.t c.requires.thread in
     let at : command_at s.program (heap s) c.args.t ≡ Some c.unwrap-command.result =
-      subst (λ (w : View). command_at w.program (heap_of w) c.args.t ≡ Some c.unwrap-command.result) (sym c.self.view_is) (sym c.command.ensures ∙ c.unwrap-command.ensures) in
+    subst (λ (w : View). command_at w.program (heap_of w) c.args.t ≡ Some c.unwrap-command.result) (sym c.self.view_is) (sym c.command.ensures ∙ c.unwrap-command.ensures) in
     let simple = subst (λ (w : View). next_of w c.args.t ≡ nexts.Simple) (sym c.self.view_is) c.requires.simple in
     let is = subst (λ (w : View). IsOutcome (heap_of w) c.args.t c.unwrap-command.result c.outcome-answer.result.answer c.outcome-answer.result.change) (sym c.self.view_is) c.outcome-answer.ensures in
     let e = Did c.args.t c.unwrap-command.result c.outcome-answer.result.answer in
-    let now : Inside = record { program = s.program; space = c.apply.new.space; pages = s.pages; labels = s.labels; cells = c.apply.new.cells;
-      states = c.advance.new.states; commits = s.commits; history = c.push.new.self } in
+    let now : Inside = record {
+      program = s.program;
+      space = c.apply.new.space;
+      pages = s.pages;
+      labels = s.labels;
+      cells = c.apply.new.cells;
+      states = c.advance.new.states;
+      commits = s.commits;
+      history = c.push.new.self;
+    } in
     agrees_after s now c.args.self.now e q q c.self.view_is refl c.in_ok-push.ensures.items
-      (did_agrees s c.self.invariant c.args.t c.unwrap-command.result c.outcome-answer.result.answer c.outcome-answer.result.change lt at simple is q))
+    (did_agrees s c.self.invariant c.args.t c.unwrap-command.result c.outcome-answer.result.answer c.outcome-answer.result.change lt at simple is q))

@@ -39,26 +39,26 @@ use Rattle.lisp_heap.proofs.world.World.place.Goals as goal
 pub unwrap-command-requires : goal.unwrap-command-requires
 unwrap-command-requires c =
     subst (λ (o : Option Command). IsSome o) (sym c.command.ensures)
-      (subst (λ (w : View). IsSome (command_at w.program (heap_of w) c.args.t)) c.self.view_is
-        (build_command c.self.inside.program (heap c.self.inside) c.args.t kinds.Cons 2 0
-          (subst (λ (w : View). next_of w c.args.t ≡ nexts.Build kinds.Cons 2 0) (sym c.self.view_is) c.requires.builds)))
+    (subst (λ (w : View). IsSome (command_at w.program (heap_of w) c.args.t)) c.self.view_is
+    (build_command c.self.inside.program (heap c.self.inside) c.args.t kinds.Cons 2 0
+    (subst (λ (w : View). next_of w c.args.t ≡ nexts.Build kinds.Cons 2 0) (sym c.self.view_is) c.requires.builds)))
 
 pub unreachable-requires : goal.unreachable-requires
 unreachable-requires c =
     let s = c.self.inside in
     let at : command_at s.program (heap s) c.args.t ≡ Some c.unwrap-command.result =
-      subst (λ (w : View). command_at w.program (heap_of w) c.args.t ≡ Some c.unwrap-command.result) (sym c.self.view_is) (sym c.command.ensures ∙ c.unwrap-command.ensures) in
+    subst (λ (w : View). command_at w.program (heap_of w) c.args.t ≡ Some c.unwrap-command.result) (sym c.self.view_is) (sym c.command.ensures ∙ c.unwrap-command.ensures) in
     let builds = subst (λ (w : View). next_of w c.args.t ≡ nexts.Build kinds.Cons 2 0) (sym c.self.view_is) c.requires.builds in
     is_cons_command c.unwrap-command.result (script_built s.program c.args.t (thread_at (heap s) c.args.t).done c.unwrap-command.result c.self.invariant.valid at)
-      (builds_room s.program (heap s) c.args.t c.unwrap-command.result at builds).0 c.in_default.not-NewCons
+    (builds_room s.program (heap s) c.args.t c.unwrap-command.result at builds).0 c.in_default.not-NewCons
 
 pub cell-first-requires-clause-cell : goal.cell-first-requires-clause-cell
 cell-first-requires-clause-cell c =
     let s = c.self.inside in
     let lt = thread_in s c.args.self.now c.self.view_is c.args.t c.requires.thread in
     let at : command_at s.program (heap s) c.args.t ≡ Some (commands.NewCons c.in-NewCons.d c.in-NewCons.a c.in-NewCons.b) =
-      subst (λ (w : View). command_at w.program (heap_of w) c.args.t ≡ Some (commands.NewCons c.in-NewCons.d c.in-NewCons.a c.in-NewCons.b)) (sym c.self.view_is)
-        (sym c.command.ensures ∙ c.in-NewCons.ensures) in
+    subst (λ (w : View). command_at w.program (heap_of w) c.args.t ≡ Some (commands.NewCons c.in-NewCons.d c.in-NewCons.a c.in-NewCons.b)) (sym c.self.view_is)
+    (sym c.command.ensures ∙ c.in-NewCons.ensures) in
     let builds = subst (λ (w : View). next_of w c.args.t ≡ nexts.Build kinds.Cons 2 0) (sym c.self.view_is) c.requires.builds in
     let place = subst (λ (w : View). c.args.index ≡ place_for (heap_of w) c.args.t kinds.Cons 2) (sym c.self.view_is) c.requires.place in
     (are_cells s c.self.invariant c.args.t c.in-NewCons.d c.in-NewCons.a c.in-NewCons.b c.args.index lt at builds place).1
@@ -68,8 +68,8 @@ cell-second-requires-clause-cell c =
     let s = c.self.inside in
     let lt = thread_in s c.args.self.now c.self.view_is c.args.t c.requires.thread in
     let at : command_at s.program (heap s) c.args.t ≡ Some (commands.NewCons c.in-NewCons.d c.in-NewCons.a c.in-NewCons.b) =
-      subst (λ (w : View). command_at w.program (heap_of w) c.args.t ≡ Some (commands.NewCons c.in-NewCons.d c.in-NewCons.a c.in-NewCons.b)) (sym c.self.view_is)
-        (sym c.command.ensures ∙ c.in-NewCons.ensures) in
+    subst (λ (w : View). command_at w.program (heap_of w) c.args.t ≡ Some (commands.NewCons c.in-NewCons.d c.in-NewCons.a c.in-NewCons.b)) (sym c.self.view_is)
+    (sym c.command.ensures ∙ c.in-NewCons.ensures) in
     let builds = subst (λ (w : View). next_of w c.args.t ≡ nexts.Build kinds.Cons 2 0) (sym c.self.view_is) c.requires.builds in
     let place = subst (λ (w : View). c.args.index ≡ place_for (heap_of w) c.args.t kinds.Cons 2) (sym c.self.view_is) c.requires.place in
     (are_cells s c.self.invariant c.args.t c.in-NewCons.d c.in-NewCons.a c.in-NewCons.b c.args.index lt at builds place).2
@@ -79,8 +79,8 @@ write-requires c =
     let s = c.self.inside in
     let lt = thread_in s c.args.self.now c.self.view_is c.args.t c.requires.thread in
     let at : command_at s.program (heap s) c.args.t ≡ Some (commands.NewCons c.in-NewCons.d c.in-NewCons.a c.in-NewCons.b) =
-      subst (λ (w : View). command_at w.program (heap_of w) c.args.t ≡ Some (commands.NewCons c.in-NewCons.d c.in-NewCons.a c.in-NewCons.b)) (sym c.self.view_is)
-        (sym c.command.ensures ∙ c.in-NewCons.ensures) in
+    subst (λ (w : View). command_at w.program (heap_of w) c.args.t ≡ Some (commands.NewCons c.in-NewCons.d c.in-NewCons.a c.in-NewCons.b)) (sym c.self.view_is)
+    (sym c.command.ensures ∙ c.in-NewCons.ensures) in
     let builds = subst (λ (w : View). next_of w c.args.t ≡ nexts.Build kinds.Cons 2 0) (sym c.self.view_is) c.requires.builds in
     let place = subst (λ (w : View). c.args.index ≡ place_for (heap_of w) c.args.t kinds.Cons 2) (sym c.self.view_is) c.requires.place in
     omega (arith, inside_space s c.self.invariant c.args.t c.in-NewCons.d c.in-NewCons.a c.in-NewCons.b c.args.index lt at builds place)
@@ -90,8 +90,8 @@ overflow_add-index c =
     let s = c.self.inside in
     let lt = thread_in s c.args.self.now c.self.view_is c.args.t c.requires.thread in
     let at : command_at s.program (heap s) c.args.t ≡ Some (commands.NewCons c.in-NewCons.d c.in-NewCons.a c.in-NewCons.b) =
-      subst (λ (w : View). command_at w.program (heap_of w) c.args.t ≡ Some (commands.NewCons c.in-NewCons.d c.in-NewCons.a c.in-NewCons.b)) (sym c.self.view_is)
-        (sym c.command.ensures ∙ c.in-NewCons.ensures) in
+    subst (λ (w : View). command_at w.program (heap_of w) c.args.t ≡ Some (commands.NewCons c.in-NewCons.d c.in-NewCons.a c.in-NewCons.b)) (sym c.self.view_is)
+    (sym c.command.ensures ∙ c.in-NewCons.ensures) in
     let builds = subst (λ (w : View). next_of w c.args.t ≡ nexts.Build kinds.Cons 2 0) (sym c.self.view_is) c.requires.builds in
     let place = subst (λ (w : View). c.args.index ≡ place_for (heap_of w) c.args.t kinds.Cons 2) (sym c.self.view_is) c.requires.place in
     omega (arith, index_below s c.self.invariant c.args.t c.in-NewCons.d c.in-NewCons.a c.in-NewCons.b c.args.index lt at builds place)
@@ -101,8 +101,8 @@ write-requires-2 c =
     let s = c.self.inside in
     let lt = thread_in s c.args.self.now c.self.view_is c.args.t c.requires.thread in
     let at : command_at s.program (heap s) c.args.t ≡ Some (commands.NewCons c.in-NewCons.d c.in-NewCons.a c.in-NewCons.b) =
-      subst (λ (w : View). command_at w.program (heap_of w) c.args.t ≡ Some (commands.NewCons c.in-NewCons.d c.in-NewCons.a c.in-NewCons.b)) (sym c.self.view_is)
-        (sym c.command.ensures ∙ c.in-NewCons.ensures) in
+    subst (λ (w : View). command_at w.program (heap_of w) c.args.t ≡ Some (commands.NewCons c.in-NewCons.d c.in-NewCons.a c.in-NewCons.b)) (sym c.self.view_is)
+    (sym c.command.ensures ∙ c.in-NewCons.ensures) in
     let builds = subst (λ (w : View). next_of w c.args.t ≡ nexts.Build kinds.Cons 2 0) (sym c.self.view_is) c.requires.builds in
     let place = subst (λ (w : View). c.args.index ≡ place_for (heap_of w) c.args.t kinds.Cons 2) (sym c.self.view_is) c.requires.place in
     let long : length c.write.new.self ≡ length s.space = ap length c.write.ensures ∙ length-set s.space c.args.index c.cell-first.result in
@@ -113,8 +113,8 @@ set-requires c =
     let s = c.self.inside in
     let lt = thread_in s c.args.self.now c.self.view_is c.args.t c.requires.thread in
     let at : command_at s.program (heap s) c.args.t ≡ Some (commands.NewCons c.in-NewCons.d c.in-NewCons.a c.in-NewCons.b) =
-      subst (λ (w : View). command_at w.program (heap_of w) c.args.t ≡ Some (commands.NewCons c.in-NewCons.d c.in-NewCons.a c.in-NewCons.b)) (sym c.self.view_is)
-        (sym c.command.ensures ∙ c.in-NewCons.ensures) in
+    subst (λ (w : View). command_at w.program (heap_of w) c.args.t ≡ Some (commands.NewCons c.in-NewCons.d c.in-NewCons.a c.in-NewCons.b)) (sym c.self.view_is)
+    (sym c.command.ensures ∙ c.in-NewCons.ensures) in
     let builds = subst (λ (w : View). next_of w c.args.t ≡ nexts.Build kinds.Cons 2 0) (sym c.self.view_is) c.requires.builds in
     let place = subst (λ (w : View). c.args.index ≡ place_for (heap_of w) c.args.t kinds.Cons 2) (sym c.self.view_is) c.requires.place in
     inside_labels s c.self.invariant c.args.t c.in-NewCons.d c.in-NewCons.a c.in-NewCons.b c.args.index lt at builds place
@@ -124,8 +124,8 @@ set_fill-requires-clause-inside c =
     let s = c.self.inside in
     let lt = thread_in s c.args.self.now c.self.view_is c.args.t c.requires.thread in
     let at : command_at s.program (heap s) c.args.t ≡ Some (commands.NewCons c.in-NewCons.d c.in-NewCons.a c.in-NewCons.b) =
-      subst (λ (w : View). command_at w.program (heap_of w) c.args.t ≡ Some (commands.NewCons c.in-NewCons.d c.in-NewCons.a c.in-NewCons.b)) (sym c.self.view_is)
-        (sym c.command.ensures ∙ c.in-NewCons.ensures) in
+    subst (λ (w : View). command_at w.program (heap_of w) c.args.t ≡ Some (commands.NewCons c.in-NewCons.d c.in-NewCons.a c.in-NewCons.b)) (sym c.self.view_is)
+    (sym c.command.ensures ∙ c.in-NewCons.ensures) in
     let builds = subst (λ (w : View). next_of w c.args.t ≡ nexts.Build kinds.Cons 2 0) (sym c.self.view_is) c.requires.builds in
     let place = subst (λ (w : View). c.args.index ≡ place_for (heap_of w) c.args.t kinds.Cons 2) (sym c.self.view_is) c.requires.place in
     inside_pages s c.self.invariant c.args.t c.in-NewCons.d c.in-NewCons.a c.in-NewCons.b c.args.index lt at builds place
@@ -135,8 +135,8 @@ set_fill-requires-clause-used c =
     let s = c.self.inside in
     let lt = thread_in s c.args.self.now c.self.view_is c.args.t c.requires.thread in
     let at : command_at s.program (heap s) c.args.t ≡ Some (commands.NewCons c.in-NewCons.d c.in-NewCons.a c.in-NewCons.b) =
-      subst (λ (w : View). command_at w.program (heap_of w) c.args.t ≡ Some (commands.NewCons c.in-NewCons.d c.in-NewCons.a c.in-NewCons.b)) (sym c.self.view_is)
-        (sym c.command.ensures ∙ c.in-NewCons.ensures) in
+    subst (λ (w : View). command_at w.program (heap_of w) c.args.t ≡ Some (commands.NewCons c.in-NewCons.d c.in-NewCons.a c.in-NewCons.b)) (sym c.self.view_is)
+    (sym c.command.ensures ∙ c.in-NewCons.ensures) in
     let builds = subst (λ (w : View). next_of w c.args.t ≡ nexts.Build kinds.Cons 2 0) (sym c.self.view_is) c.requires.builds in
     let place = subst (λ (w : View). c.args.index ≡ place_for (heap_of w) c.args.t kinds.Cons 2) (sym c.self.view_is) c.requires.place in
     is_used s c.self.invariant c.args.t c.in-NewCons.d c.in-NewCons.a c.in-NewCons.b c.args.index lt at builds place
@@ -146,8 +146,8 @@ set_fill-requires-clause-most c =
     let s = c.self.inside in
     let lt = thread_in s c.args.self.now c.self.view_is c.args.t c.requires.thread in
     let at : command_at s.program (heap s) c.args.t ≡ Some (commands.NewCons c.in-NewCons.d c.in-NewCons.a c.in-NewCons.b) =
-      subst (λ (w : View). command_at w.program (heap_of w) c.args.t ≡ Some (commands.NewCons c.in-NewCons.d c.in-NewCons.a c.in-NewCons.b)) (sym c.self.view_is)
-        (sym c.command.ensures ∙ c.in-NewCons.ensures) in
+    subst (λ (w : View). command_at w.program (heap_of w) c.args.t ≡ Some (commands.NewCons c.in-NewCons.d c.in-NewCons.a c.in-NewCons.b)) (sym c.self.view_is)
+    (sym c.command.ensures ∙ c.in-NewCons.ensures) in
     let builds = subst (λ (w : View). next_of w c.args.t ≡ nexts.Build kinds.Cons 2 0) (sym c.self.view_is) c.requires.builds in
     let place = subst (λ (w : View). c.args.index ≡ place_for (heap_of w) c.args.t kinds.Cons 2) (sym c.self.view_is) c.requires.place in
     fill_room s c.self.invariant c.args.t c.in-NewCons.d c.in-NewCons.a c.in-NewCons.b c.args.index lt at builds place
@@ -157,8 +157,8 @@ tag-requires c =
     let s = c.self.inside in
     let lt = thread_in s c.args.self.now c.self.view_is c.args.t c.requires.thread in
     let at : command_at s.program (heap s) c.args.t ≡ Some (commands.NewCons c.in-NewCons.d c.in-NewCons.a c.in-NewCons.b) =
-      subst (λ (w : View). command_at w.program (heap_of w) c.args.t ≡ Some (commands.NewCons c.in-NewCons.d c.in-NewCons.a c.in-NewCons.b)) (sym c.self.view_is)
-        (sym c.command.ensures ∙ c.in-NewCons.ensures) in
+    subst (λ (w : View). command_at w.program (heap_of w) c.args.t ≡ Some (commands.NewCons c.in-NewCons.d c.in-NewCons.a c.in-NewCons.b)) (sym c.self.view_is)
+    (sym c.command.ensures ∙ c.in-NewCons.ensures) in
     let builds = subst (λ (w : View). next_of w c.args.t ≡ nexts.Build kinds.Cons 2 0) (sym c.self.view_is) c.requires.builds in
     let place = subst (λ (w : View). c.args.index ≡ place_for (heap_of w) c.args.t kinds.Cons 2) (sym c.self.view_is) c.requires.place in
     omega (arith, index_below s c.self.invariant c.args.t c.in-NewCons.d c.in-NewCons.a c.in-NewCons.b c.args.index lt at builds place)
@@ -168,8 +168,8 @@ write-requires-3-clause-cell c =
     let s = c.self.inside in
     let lt = thread_in s c.args.self.now c.self.view_is c.args.t c.requires.thread in
     let at : command_at s.program (heap s) c.args.t ≡ Some (commands.NewCons c.in-NewCons.d c.in-NewCons.a c.in-NewCons.b) =
-      subst (λ (w : View). command_at w.program (heap_of w) c.args.t ≡ Some (commands.NewCons c.in-NewCons.d c.in-NewCons.a c.in-NewCons.b)) (sym c.self.view_is)
-        (sym c.command.ensures ∙ c.in-NewCons.ensures) in
+    subst (λ (w : View). command_at w.program (heap_of w) c.args.t ≡ Some (commands.NewCons c.in-NewCons.d c.in-NewCons.a c.in-NewCons.b)) (sym c.self.view_is)
+    (sym c.command.ensures ∙ c.in-NewCons.ensures) in
     let builds = subst (λ (w : View). next_of w c.args.t ≡ nexts.Build kinds.Cons 2 0) (sym c.self.view_is) c.requires.builds in
     let place = subst (λ (w : View). c.args.index ≡ place_for (heap_of w) c.args.t kinds.Cons 2) (sym c.self.view_is) c.requires.place in
     (are_cells s c.self.invariant c.args.t c.in-NewCons.d c.in-NewCons.a c.in-NewCons.b c.args.index lt at builds place).0
@@ -179,8 +179,8 @@ write-requires-3-clause-stack c =
     let s = c.self.inside in
     let lt = thread_in s c.args.self.now c.self.view_is c.args.t c.requires.thread in
     let at : command_at s.program (heap s) c.args.t ≡ Some (commands.NewCons c.in-NewCons.d c.in-NewCons.a c.in-NewCons.b) =
-      subst (λ (w : View). command_at w.program (heap_of w) c.args.t ≡ Some (commands.NewCons c.in-NewCons.d c.in-NewCons.a c.in-NewCons.b)) (sym c.self.view_is)
-        (sym c.command.ensures ∙ c.in-NewCons.ensures) in
+    subst (λ (w : View). command_at w.program (heap_of w) c.args.t ≡ Some (commands.NewCons c.in-NewCons.d c.in-NewCons.a c.in-NewCons.b)) (sym c.self.view_is)
+    (sym c.command.ensures ∙ c.in-NewCons.ensures) in
     let builds = subst (λ (w : View). next_of w c.args.t ≡ nexts.Build kinds.Cons 2 0) (sym c.self.view_is) c.requires.builds in
     let place = subst (λ (w : View). c.args.index ≡ place_for (heap_of w) c.args.t kinds.Cons 2) (sym c.self.view_is) c.requires.place in
     (cells_room s c.args.t c.self.invariant lt).0
@@ -190,8 +190,8 @@ write-requires-3-clause-exact c =
     let s = c.self.inside in
     let lt = thread_in s c.args.self.now c.self.view_is c.args.t c.requires.thread in
     let at : command_at s.program (heap s) c.args.t ≡ Some (commands.NewCons c.in-NewCons.d c.in-NewCons.a c.in-NewCons.b) =
-      subst (λ (w : View). command_at w.program (heap_of w) c.args.t ≡ Some (commands.NewCons c.in-NewCons.d c.in-NewCons.a c.in-NewCons.b)) (sym c.self.view_is)
-        (sym c.command.ensures ∙ c.in-NewCons.ensures) in
+    subst (λ (w : View). command_at w.program (heap_of w) c.args.t ≡ Some (commands.NewCons c.in-NewCons.d c.in-NewCons.a c.in-NewCons.b)) (sym c.self.view_is)
+    (sym c.command.ensures ∙ c.in-NewCons.ensures) in
     let builds = subst (λ (w : View). next_of w c.args.t ≡ nexts.Build kinds.Cons 2 0) (sym c.self.view_is) c.requires.builds in
     let place = subst (λ (w : View). c.args.index ≡ place_for (heap_of w) c.args.t kinds.Cons 2) (sym c.self.view_is) c.requires.place in
     (cells_room s c.args.t c.self.invariant lt).1
@@ -201,8 +201,8 @@ overflow_add-self c =
     let s = c.self.inside in
     let lt = thread_in s c.args.self.now c.self.view_is c.args.t c.requires.thread in
     let at : command_at s.program (heap s) c.args.t ≡ Some (commands.NewCons c.in-NewCons.d c.in-NewCons.a c.in-NewCons.b) =
-      subst (λ (w : View). command_at w.program (heap_of w) c.args.t ≡ Some (commands.NewCons c.in-NewCons.d c.in-NewCons.a c.in-NewCons.b)) (sym c.self.view_is)
-        (sym c.command.ensures ∙ c.in-NewCons.ensures) in
+    subst (λ (w : View). command_at w.program (heap_of w) c.args.t ≡ Some (commands.NewCons c.in-NewCons.d c.in-NewCons.a c.in-NewCons.b)) (sym c.self.view_is)
+    (sym c.command.ensures ∙ c.in-NewCons.ensures) in
     let builds = subst (λ (w : View). next_of w c.args.t ≡ nexts.Build kinds.Cons 2 0) (sym c.self.view_is) c.requires.builds in
     let place = subst (λ (w : View). c.args.index ≡ place_for (heap_of w) c.args.t kinds.Cons 2) (sym c.self.view_is) c.requires.place in
     omega (arith, few_commits s c.self.invariant c.args.t c.in-NewCons.d c.in-NewCons.a c.in-NewCons.b c.args.index lt at builds place)
@@ -212,8 +212,8 @@ advance-requires-clause-thread c =
     let s = c.self.inside in
     let lt = thread_in s c.args.self.now c.self.view_is c.args.t c.requires.thread in
     let at : command_at s.program (heap s) c.args.t ≡ Some (commands.NewCons c.in-NewCons.d c.in-NewCons.a c.in-NewCons.b) =
-      subst (λ (w : View). command_at w.program (heap_of w) c.args.t ≡ Some (commands.NewCons c.in-NewCons.d c.in-NewCons.a c.in-NewCons.b)) (sym c.self.view_is)
-        (sym c.command.ensures ∙ c.in-NewCons.ensures) in
+    subst (λ (w : View). command_at w.program (heap_of w) c.args.t ≡ Some (commands.NewCons c.in-NewCons.d c.in-NewCons.a c.in-NewCons.b)) (sym c.self.view_is)
+    (sym c.command.ensures ∙ c.in-NewCons.ensures) in
     let builds = subst (λ (w : View). next_of w c.args.t ≡ nexts.Build kinds.Cons 2 0) (sym c.self.view_is) c.requires.builds in
     let place = subst (λ (w : View). c.args.index ≡ place_for (heap_of w) c.args.t kinds.Cons 2) (sym c.self.view_is) c.requires.place in
     omega (arith, lt, states_length s c.self.invariant)
@@ -223,8 +223,8 @@ advance-requires-clause-room c =
     let s = c.self.inside in
     let lt = thread_in s c.args.self.now c.self.view_is c.args.t c.requires.thread in
     let at : command_at s.program (heap s) c.args.t ≡ Some (commands.NewCons c.in-NewCons.d c.in-NewCons.a c.in-NewCons.b) =
-      subst (λ (w : View). command_at w.program (heap_of w) c.args.t ≡ Some (commands.NewCons c.in-NewCons.d c.in-NewCons.a c.in-NewCons.b)) (sym c.self.view_is)
-        (sym c.command.ensures ∙ c.in-NewCons.ensures) in
+    subst (λ (w : View). command_at w.program (heap_of w) c.args.t ≡ Some (commands.NewCons c.in-NewCons.d c.in-NewCons.a c.in-NewCons.b)) (sym c.self.view_is)
+    (sym c.command.ensures ∙ c.in-NewCons.ensures) in
     let builds = subst (λ (w : View). next_of w c.args.t ≡ nexts.Build kinds.Cons 2 0) (sym c.self.view_is) c.requires.builds in
     let place = subst (λ (w : View). c.args.index ≡ place_for (heap_of w) c.args.t kinds.Cons 2) (sym c.self.view_is) c.requires.place in
     state_room s c.self.invariant c.args.t (commands.NewCons c.in-NewCons.d c.in-NewCons.a c.in-NewCons.b) lt at
@@ -234,38 +234,53 @@ invariant_of-self-2 c =
     let s = c.self.inside in
     let lt = thread_in s c.args.self.now c.self.view_is c.args.t c.requires.thread in
     let at : command_at s.program (heap s) c.args.t ≡ Some (commands.NewCons c.in-NewCons.d c.in-NewCons.a c.in-NewCons.b) =
-      subst (λ (w : View). command_at w.program (heap_of w) c.args.t ≡ Some (commands.NewCons c.in-NewCons.d c.in-NewCons.a c.in-NewCons.b)) (sym c.self.view_is)
-        (sym c.command.ensures ∙ c.in-NewCons.ensures) in
+    subst (λ (w : View). command_at w.program (heap_of w) c.args.t ≡ Some (commands.NewCons c.in-NewCons.d c.in-NewCons.a c.in-NewCons.b)) (sym c.self.view_is)
+    (sym c.command.ensures ∙ c.in-NewCons.ensures) in
     let builds = subst (λ (w : View). next_of w c.args.t ≡ nexts.Build kinds.Cons 2 0) (sym c.self.view_is) c.requires.builds in
     let place = subst (λ (w : View). c.args.index ≡ place_for (heap_of w) c.args.t kinds.Cons 2) (sym c.self.view_is) c.requires.place in
     let e = Did c.args.t (commands.NewCons c.in-NewCons.d c.in-NewCons.a c.in-NewCons.b) (answers.Placed (length (heap s).objects) c.args.index) in
     let same_event : c.push.new.self.items ≡ s.history.items ++ e ∷ [] =
-      c.in_ok-push.ensures.items ∙ ap (λ (n : ℕ). s.history.items ++ Did c.args.t (commands.NewCons c.in-NewCons.d c.in-NewCons.a c.in-NewCons.b) (answers.Placed n c.args.index) ∷ []) c.self.invariant.holds.commits in
-    let now : Inside = record { program = s.program; space = c.write-2.new.self; pages = c.set_fill.new.self; labels = c.set.new.self; cells = c.write-3.new.self;
-      states = c.advance.new.states; commits = s.commits + 1; history = c.push.new.self } in
+    c.in_ok-push.ensures.items ∙ ap (λ (n : ℕ). s.history.items ++ Did c.args.t (commands.NewCons c.in-NewCons.d c.in-NewCons.a c.in-NewCons.b) (answers.Placed n c.args.index) ∷ []) c.self.invariant.holds.commits in
+    let now : Inside = record {
+      program = s.program;
+      space = c.write-2.new.self;
+      pages = c.set_fill.new.self;
+      labels = c.set.new.self;
+      cells = c.write-3.new.self;
+      states = c.advance.new.states;
+      commits = s.commits + 1;
+      history = c.push.new.self;
+    } in
     let first : c.cell-first.result ≡ word_of (heap s).objects (cell_value (heap s) c.args.t c.in-NewCons.a) =
-      subst (λ (w : View). c.cell-first.result ≡ word_of (heap_of w).objects (cell_value (heap_of w) c.args.t c.in-NewCons.a)) (sym c.self.view_is) c.cell-first.ensures in
+    subst (λ (w : View). c.cell-first.result ≡ word_of (heap_of w).objects (cell_value (heap_of w) c.args.t c.in-NewCons.a)) (sym c.self.view_is) c.cell-first.ensures in
     let second : c.cell-second.result ≡ word_of (heap s).objects (cell_value (heap s) c.args.t c.in-NewCons.b) =
-      subst (λ (w : View). c.cell-second.result ≡ word_of (heap_of w).objects (cell_value (heap_of w) c.args.t c.in-NewCons.b)) (sym c.self.view_is) c.cell-second.ensures in
+    subst (λ (w : View). c.cell-second.result ≡ word_of (heap_of w).objects (cell_value (heap_of w) c.args.t c.in-NewCons.b)) (sym c.self.view_is) c.cell-second.ensures in
     let w1 : c.write-2.new.self ≡ slice_set c.write.new.self (c.args.index + 1) c.cell-second.result = c.write-2.ensures in
     let w2 : c.write.new.self ≡ slice_set s.space c.args.index c.cell-first.result = c.write.ensures in
     let held = Holds-same (after s.program (heap s) e) (record {
-        words = slice_set (slice_set s.space c.args.index (word_of (heap s).objects (cell_value (heap s) c.args.t c.in-NewCons.a))) (c.args.index + 1)
+      words = slice_set (slice_set s.space c.args.index (word_of (heap s).objects (cell_value (heap s) c.args.t c.in-NewCons.a))) (c.args.index + 1)
           (word_of (heap s).objects (cell_value (heap s) c.args.t c.in-NewCons.b));
-        pages = slice_set s.pages (c.args.index / 512) (with_fill (entry_at s.pages (c.args.index / 512)) (c.args.index % 512 + 2));
-        labels = slice_set s.labels (c.args.index / 2) (length (heap s).objects);
-        cells = with_cell_word s.cells c.args.t c.in-NewCons.d (reference_word c.args.index kinds.Cons);
-        states = advanced s.states c.args.t;
-        commits = s.commits + 1 }) (record {
-        words = c.write-2.new.self; pages = c.set_fill.new.self; labels = c.set.new.self; cells = c.write-3.new.self; states = c.advance.new.states; commits = s.commits + 1 })
-      (w1 ∙ ap (λ (ws : List ℕ). slice_set ws (c.args.index + 1) c.cell-second.result) w2
-        ∙ ap (λ (v : ℕ). slice_set (slice_set s.space c.args.index v) (c.args.index + 1) c.cell-second.result) first
-        ∙ ap (λ (v : ℕ). slice_set (slice_set s.space c.args.index (word_of (heap s).objects (cell_value (heap s) c.args.t c.in-NewCons.a))) (c.args.index + 1) v) second)
-      c.set_fill.ensures
-      (c.set.ensures ∙ ap (λ (n : ℕ). slice_set s.labels (c.args.index / 2) n) c.self.invariant.holds.commits)
-      (c.write-3.ensures ∙ ap (λ (v : ℕ). with_cell_word s.cells c.args.t c.in-NewCons.d v) c.tag.ensures)
-      c.advance.ensures refl
-      (placed_holds s c.self.invariant c.args.t c.in-NewCons.d c.in-NewCons.a c.in-NewCons.b c.args.index lt at builds place) in
+      pages = slice_set s.pages (c.args.index / 512) (with_fill (entry_at s.pages (c.args.index / 512)) (c.args.index % 512 + 2));
+      labels = slice_set s.labels (c.args.index / 2) (length (heap s).objects);
+      cells = with_cell_word s.cells c.args.t c.in-NewCons.d (reference_word c.args.index kinds.Cons);
+      states = advanced s.states c.args.t;
+      commits = s.commits + 1;
+    }) (record {
+      words = c.write-2.new.self;
+      pages = c.set_fill.new.self;
+      labels = c.set.new.self;
+      cells = c.write-3.new.self;
+      states = c.advance.new.states;
+      commits = s.commits + 1;
+    })
+    (w1 ∙ ap (λ (ws : List ℕ). slice_set ws (c.args.index + 1) c.cell-second.result) w2
+    ∙ ap (λ (v : ℕ). slice_set (slice_set s.space c.args.index v) (c.args.index + 1) c.cell-second.result) first
+    ∙ ap (λ (v : ℕ). slice_set (slice_set s.space c.args.index (word_of (heap s).objects (cell_value (heap s) c.args.t c.in-NewCons.a))) (c.args.index + 1) v) second)
+    c.set_fill.ensures
+    (c.set.ensures ∙ ap (λ (n : ℕ). slice_set s.labels (c.args.index / 2) n) c.self.invariant.holds.commits)
+    (c.write-3.ensures ∙ ap (λ (v : ℕ). with_cell_word s.cells c.args.t c.in-NewCons.d v) c.tag.ensures)
+    c.advance.ensures refl
+    (placed_holds s c.self.invariant c.args.t c.in-NewCons.d c.in-NewCons.a c.in-NewCons.b c.args.index lt at builds place) in
     sound_after s now e c.self.invariant refl same_event (placed_next s c.self.invariant c.args.t c.in-NewCons.d c.in-NewCons.a c.in-NewCons.b c.args.index lt at builds place) held
 
 pub returns-clause-ok : goal.returns-clause-ok
@@ -273,15 +288,23 @@ returns-clause-ok c =
     let s = c.self.inside in
     let lt = thread_in s c.args.self.now c.self.view_is c.args.t c.requires.thread in
     let at : command_at s.program (heap s) c.args.t ≡ Some (commands.NewCons c.in-NewCons.d c.in-NewCons.a c.in-NewCons.b) =
-      subst (λ (w : View). command_at w.program (heap_of w) c.args.t ≡ Some (commands.NewCons c.in-NewCons.d c.in-NewCons.a c.in-NewCons.b)) (sym c.self.view_is)
-        (sym c.command.ensures ∙ c.in-NewCons.ensures) in
+    subst (λ (w : View). command_at w.program (heap_of w) c.args.t ≡ Some (commands.NewCons c.in-NewCons.d c.in-NewCons.a c.in-NewCons.b)) (sym c.self.view_is)
+    (sym c.command.ensures ∙ c.in-NewCons.ensures) in
     let builds = subst (λ (w : View). next_of w c.args.t ≡ nexts.Build kinds.Cons 2 0) (sym c.self.view_is) c.requires.builds in
     let place = subst (λ (w : View). c.args.index ≡ place_for (heap_of w) c.args.t kinds.Cons 2) (sym c.self.view_is) c.requires.place in
     let e = Did c.args.t (commands.NewCons c.in-NewCons.d c.in-NewCons.a c.in-NewCons.b) (answers.Placed (length (heap s).objects) c.args.index) in
     let same_event : c.push.new.self.items ≡ s.history.items ++ e ∷ [] =
-      c.in_ok-push.ensures.items ∙ ap (λ (n : ℕ). s.history.items ++ Did c.args.t (commands.NewCons c.in-NewCons.d c.in-NewCons.a c.in-NewCons.b) (answers.Placed n c.args.index) ∷ []) c.self.invariant.holds.commits in
-    let now : Inside = record { program = s.program; space = c.write-2.new.self; pages = c.set_fill.new.self; labels = c.set.new.self; cells = c.write-3.new.self;
-      states = c.advance.new.states; commits = s.commits + 1; history = c.push.new.self } in
+    c.in_ok-push.ensures.items ∙ ap (λ (n : ℕ). s.history.items ++ Did c.args.t (commands.NewCons c.in-NewCons.d c.in-NewCons.a c.in-NewCons.b) (answers.Placed n c.args.index) ∷ []) c.self.invariant.holds.commits in
+    let now : Inside = record {
+      program = s.program;
+      space = c.write-2.new.self;
+      pages = c.set_fill.new.self;
+      labels = c.set.new.self;
+      cells = c.write-3.new.self;
+      states = c.advance.new.states;
+      commits = s.commits + 1;
+      history = c.push.new.self;
+    } in
     happens_after s now c.args.self.now c.args.t e c.self.view_is refl same_event refl (placed_next s c.self.invariant c.args.t c.in-NewCons.d c.in-NewCons.a c.in-NewCons.b c.args.index lt at builds place)
 
 pub returns-clause-agrees : goal.returns-clause-agrees
@@ -289,15 +312,23 @@ returns-clause-agrees c = λ q owner. (
     let s = c.self.inside in
     let lt = thread_in s c.args.self.now c.self.view_is c.args.t c.requires.thread in
     let at : command_at s.program (heap s) c.args.t ≡ Some (commands.NewCons c.in-NewCons.d c.in-NewCons.a c.in-NewCons.b) =
-      subst (λ (w : View). command_at w.program (heap_of w) c.args.t ≡ Some (commands.NewCons c.in-NewCons.d c.in-NewCons.a c.in-NewCons.b)) (sym c.self.view_is)
-        (sym c.command.ensures ∙ c.in-NewCons.ensures) in
+    subst (λ (w : View). command_at w.program (heap_of w) c.args.t ≡ Some (commands.NewCons c.in-NewCons.d c.in-NewCons.a c.in-NewCons.b)) (sym c.self.view_is)
+    (sym c.command.ensures ∙ c.in-NewCons.ensures) in
     let builds = subst (λ (w : View). next_of w c.args.t ≡ nexts.Build kinds.Cons 2 0) (sym c.self.view_is) c.requires.builds in
     let place = subst (λ (w : View). c.args.index ≡ place_for (heap_of w) c.args.t kinds.Cons 2) (sym c.self.view_is) c.requires.place in
     let e = Did c.args.t (commands.NewCons c.in-NewCons.d c.in-NewCons.a c.in-NewCons.b) (answers.Placed (length (heap s).objects) c.args.index) in
     let same_event : c.push.new.self.items ≡ s.history.items ++ e ∷ [] =
-      c.in_ok-push.ensures.items ∙ ap (λ (n : ℕ). s.history.items ++ Did c.args.t (commands.NewCons c.in-NewCons.d c.in-NewCons.a c.in-NewCons.b) (answers.Placed n c.args.index) ∷ []) c.self.invariant.holds.commits in
-    let now : Inside = record { program = s.program; space = c.write-2.new.self; pages = c.set_fill.new.self; labels = c.set.new.self; cells = c.write-3.new.self;
-      states = c.advance.new.states; commits = s.commits + 1; history = c.push.new.self } in
+    c.in_ok-push.ensures.items ∙ ap (λ (n : ℕ). s.history.items ++ Did c.args.t (commands.NewCons c.in-NewCons.d c.in-NewCons.a c.in-NewCons.b) (answers.Placed n c.args.index) ∷ []) c.self.invariant.holds.commits in
+    let now : Inside = record {
+      program = s.program;
+      space = c.write-2.new.self;
+      pages = c.set_fill.new.self;
+      labels = c.set.new.self;
+      cells = c.write-3.new.self;
+      states = c.advance.new.states;
+      commits = s.commits + 1;
+      history = c.push.new.self;
+    } in
     agrees_after s now c.args.self.now e q (with_accepted q) c.self.view_is refl same_event (placed_agrees s c.self.invariant c.args.t c.in-NewCons.d c.in-NewCons.a c.in-NewCons.b c.args.index lt at builds place q owner))
 
 pub returns-clause-others : goal.returns-clause-others
@@ -305,13 +336,21 @@ returns-clause-others c = λ q other. (
     let s = c.self.inside in
     let lt = thread_in s c.args.self.now c.self.view_is c.args.t c.requires.thread in
     let at : command_at s.program (heap s) c.args.t ≡ Some (commands.NewCons c.in-NewCons.d c.in-NewCons.a c.in-NewCons.b) =
-      subst (λ (w : View). command_at w.program (heap_of w) c.args.t ≡ Some (commands.NewCons c.in-NewCons.d c.in-NewCons.a c.in-NewCons.b)) (sym c.self.view_is)
-        (sym c.command.ensures ∙ c.in-NewCons.ensures) in
+    subst (λ (w : View). command_at w.program (heap_of w) c.args.t ≡ Some (commands.NewCons c.in-NewCons.d c.in-NewCons.a c.in-NewCons.b)) (sym c.self.view_is)
+    (sym c.command.ensures ∙ c.in-NewCons.ensures) in
     let builds = subst (λ (w : View). next_of w c.args.t ≡ nexts.Build kinds.Cons 2 0) (sym c.self.view_is) c.requires.builds in
     let place = subst (λ (w : View). c.args.index ≡ place_for (heap_of w) c.args.t kinds.Cons 2) (sym c.self.view_is) c.requires.place in
     let e = Did c.args.t (commands.NewCons c.in-NewCons.d c.in-NewCons.a c.in-NewCons.b) (answers.Placed (length (heap s).objects) c.args.index) in
     let same_event : c.push.new.self.items ≡ s.history.items ++ e ∷ [] =
-      c.in_ok-push.ensures.items ∙ ap (λ (n : ℕ). s.history.items ++ Did c.args.t (commands.NewCons c.in-NewCons.d c.in-NewCons.a c.in-NewCons.b) (answers.Placed n c.args.index) ∷ []) c.self.invariant.holds.commits in
-    let now : Inside = record { program = s.program; space = c.write-2.new.self; pages = c.set_fill.new.self; labels = c.set.new.self; cells = c.write-3.new.self;
-      states = c.advance.new.states; commits = s.commits + 1; history = c.push.new.self } in
+    c.in_ok-push.ensures.items ∙ ap (λ (n : ℕ). s.history.items ++ Did c.args.t (commands.NewCons c.in-NewCons.d c.in-NewCons.a c.in-NewCons.b) (answers.Placed n c.args.index) ∷ []) c.self.invariant.holds.commits in
+    let now : Inside = record {
+      program = s.program;
+      space = c.write-2.new.self;
+      pages = c.set_fill.new.self;
+      labels = c.set.new.self;
+      cells = c.write-3.new.self;
+      states = c.advance.new.states;
+      commits = s.commits + 1;
+      history = c.push.new.self;
+    } in
     agrees_after s now c.args.self.now e q q c.self.view_is refl same_event (placed_others s c.self.invariant c.args.t c.in-NewCons.d c.in-NewCons.a c.in-NewCons.b c.args.index lt at builds place q other))

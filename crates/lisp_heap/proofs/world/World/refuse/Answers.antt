@@ -33,8 +33,8 @@ use Rattle.lisp_heap.proofs.world.World.refuse.Goals as goal
 pub unwrap-command-requires : goal.unwrap-command-requires
 unwrap-command-requires c =
     subst (λ (o : Option Command). IsSome o) (sym c.command.ensures)
-      (subst (λ (w : View). IsSome (command_at w.program (heap_of w) c.args.t)) c.self.view_is
-        (open_command c.self.inside.program (heap c.self.inside) c.args.t (subst (λ (w : View). next_of w c.args.t ≡ nexts.Open) (sym c.self.view_is) c.requires.opens)))
+    (subst (λ (w : View). IsSome (command_at w.program (heap_of w) c.args.t)) c.self.view_is
+    (open_command c.self.inside.program (heap c.self.inside) c.args.t (subst (λ (w : View). next_of w c.args.t ≡ nexts.Open) (sym c.self.view_is) c.requires.opens)))
 
 pub advance-requires-clause-thread : goal.advance-requires-clause-thread
 advance-requires-clause-thread c =
@@ -45,7 +45,7 @@ advance-requires-clause-room c =
     let s = c.self.inside in
     let lt = thread_in s c.args.self.now c.self.view_is c.args.t c.requires.thread in
     let at : command_at s.program (heap s) c.args.t ≡ Some c.unwrap-command.result =
-      subst (λ (w : View). command_at w.program (heap_of w) c.args.t ≡ Some c.unwrap-command.result) (sym c.self.view_is) (sym c.command.ensures ∙ c.unwrap-command.ensures) in
+    subst (λ (w : View). command_at w.program (heap_of w) c.args.t ≡ Some c.unwrap-command.result) (sym c.self.view_is) (sym c.command.ensures ∙ c.unwrap-command.ensures) in
     let opens = subst (λ (w : View). next_of w c.args.t ≡ nexts.Open) (sym c.self.view_is) c.requires.opens in
     state_room s c.self.invariant c.args.t c.unwrap-command.result lt at
 
@@ -54,41 +54,71 @@ invariant_of-self-2 c =
     let s = c.self.inside in
     let lt = thread_in s c.args.self.now c.self.view_is c.args.t c.requires.thread in
     let at : command_at s.program (heap s) c.args.t ≡ Some c.unwrap-command.result =
-      subst (λ (w : View). command_at w.program (heap_of w) c.args.t ≡ Some c.unwrap-command.result) (sym c.self.view_is) (sym c.command.ensures ∙ c.unwrap-command.ensures) in
+    subst (λ (w : View). command_at w.program (heap_of w) c.args.t ≡ Some c.unwrap-command.result) (sym c.self.view_is) (sym c.command.ensures ∙ c.unwrap-command.ensures) in
     let opens = subst (λ (w : View). next_of w c.args.t ≡ nexts.Open) (sym c.self.view_is) c.requires.opens in
     let none = subst (λ (w : View). HasNoRun (heap_of w).pages 1) (sym c.self.view_is) c.requires.none in
     let e = Did c.args.t c.unwrap-command.result (answers.Refused Exhausted) in
-    let now : Inside = record { program = s.program; space = s.space; pages = s.pages; labels = s.labels; cells = s.cells;
-      states = c.advance.new.states; commits = s.commits; history = c.push.new.self } in
+    let now : Inside = record {
+      program = s.program;
+      space = s.space;
+      pages = s.pages;
+      labels = s.labels;
+      cells = s.cells;
+      states = c.advance.new.states;
+      commits = s.commits;
+      history = c.push.new.self;
+    } in
     let held : Holds (after s.program (heap s) e) (record {
-        words = s.space; pages = s.pages; labels = s.labels; cells = s.cells; states = c.advance.new.states; commits = s.commits }) =
-      rw c.advance.ensures (refused_holds s c.self.invariant c.args.t c.unwrap-command.result lt at opens) in
+      words = s.space;
+      pages = s.pages;
+      labels = s.labels;
+      cells = s.cells;
+      states = c.advance.new.states;
+      commits = s.commits;
+    }) =
+    rw c.advance.ensures (refused_holds s c.self.invariant c.args.t c.unwrap-command.result lt at opens) in
     sound_after s now e c.self.invariant refl c.in_ok-push.ensures.items
-      (refused_next s c.self.invariant c.args.t c.unwrap-command.result lt at opens none) held
+    (refused_next s c.self.invariant c.args.t c.unwrap-command.result lt at opens none) held
 
 pub returns-clause-ok : goal.returns-clause-ok
 returns-clause-ok c =
     let s = c.self.inside in
     let lt = thread_in s c.args.self.now c.self.view_is c.args.t c.requires.thread in
     let at : command_at s.program (heap s) c.args.t ≡ Some c.unwrap-command.result =
-      subst (λ (w : View). command_at w.program (heap_of w) c.args.t ≡ Some c.unwrap-command.result) (sym c.self.view_is) (sym c.command.ensures ∙ c.unwrap-command.ensures) in
+    subst (λ (w : View). command_at w.program (heap_of w) c.args.t ≡ Some c.unwrap-command.result) (sym c.self.view_is) (sym c.command.ensures ∙ c.unwrap-command.ensures) in
     let opens = subst (λ (w : View). next_of w c.args.t ≡ nexts.Open) (sym c.self.view_is) c.requires.opens in
     let none = subst (λ (w : View). HasNoRun (heap_of w).pages 1) (sym c.self.view_is) c.requires.none in
     let e = Did c.args.t c.unwrap-command.result (answers.Refused Exhausted) in
-    let now : Inside = record { program = s.program; space = s.space; pages = s.pages; labels = s.labels; cells = s.cells;
-      states = c.advance.new.states; commits = s.commits; history = c.push.new.self } in
+    let now : Inside = record {
+      program = s.program;
+      space = s.space;
+      pages = s.pages;
+      labels = s.labels;
+      cells = s.cells;
+      states = c.advance.new.states;
+      commits = s.commits;
+      history = c.push.new.self;
+    } in
     happens_after s now c.args.self.now c.args.t e c.self.view_is refl c.in_ok-push.ensures.items refl
-      (refused_next s c.self.invariant c.args.t c.unwrap-command.result lt at opens none)
+    (refused_next s c.self.invariant c.args.t c.unwrap-command.result lt at opens none)
 
 pub returns-clause-agrees : goal.returns-clause-agrees
 returns-clause-agrees c = λ q. (
     let s = c.self.inside in
     let lt = thread_in s c.args.self.now c.self.view_is c.args.t c.requires.thread in
     let at : command_at s.program (heap s) c.args.t ≡ Some c.unwrap-command.result =
-      subst (λ (w : View). command_at w.program (heap_of w) c.args.t ≡ Some c.unwrap-command.result) (sym c.self.view_is) (sym c.command.ensures ∙ c.unwrap-command.ensures) in
+    subst (λ (w : View). command_at w.program (heap_of w) c.args.t ≡ Some c.unwrap-command.result) (sym c.self.view_is) (sym c.command.ensures ∙ c.unwrap-command.ensures) in
     let opens = subst (λ (w : View). next_of w c.args.t ≡ nexts.Open) (sym c.self.view_is) c.requires.opens in
     let e = Did c.args.t c.unwrap-command.result (answers.Refused Exhausted) in
-    let now : Inside = record { program = s.program; space = s.space; pages = s.pages; labels = s.labels; cells = s.cells;
-      states = c.advance.new.states; commits = s.commits; history = c.push.new.self } in
+    let now : Inside = record {
+      program = s.program;
+      space = s.space;
+      pages = s.pages;
+      labels = s.labels;
+      cells = s.cells;
+      states = c.advance.new.states;
+      commits = s.commits;
+      history = c.push.new.self;
+    } in
     agrees_after s now c.args.self.now e q q c.self.view_is refl c.in_ok-push.ensures.items
-      (refused_agrees s c.self.invariant c.args.t c.unwrap-command.result lt at opens q))
+    (refused_agrees s c.self.invariant c.args.t c.unwrap-command.result lt at opens q))

@@ -14,4 +14,4 @@ pub returns : goal.returns
 returns c =
     let living = cell_lives c.self.inside c.args.self.now c.self.invariant c.self.view_is c.args.t c.args.c c.requires.thread in
     shown_is (heap_of c.args.self.now) c.args.t c.args.c c.value_of.result
-      (c.value_of.ensures (cell_value (heap_of c.args.self.now) c.args.t c.args.c) living c.cell-word.ensures)
+    (c.value_of.ensures (cell_value (heap_of c.args.self.now) c.args.t c.args.c) living c.cell-word.ensures)

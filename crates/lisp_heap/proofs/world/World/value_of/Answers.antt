@@ -16,24 +16,24 @@ use Rattle.lisp_heap.proofs.world.World.value_of.Goals as goal
 pub at-requires : goal.at-requires
 at-requires c =
     let word : IsWord (heap_of (view_of c.self.inside)) c.args.word =
-      subst (λ (w : View). IsWord (heap_of w) c.args.word) (sym c.self.view_is) c.requires in
+    subst (λ (w : View). IsWord (heap_of w) c.args.word) (sym c.self.view_is) c.requires in
     let f = found_at c.self.inside c.self.invariant word.value c.args.word c.in-Some-untag.index c.in-Some-untag.field-0-1 word.living word.word_is
-      c.in-Some-untag.ensures.tagged in
+    c.in-Some-untag.ensures.tagged in
     subst (λ (n : ℕ). n / 2 < length c.self.inside.labels) (sym f.place) (label_there c.self.inside c.self.invariant f.name f.at_cons)
 
 pub returns-in-Some-untag : goal.returns-in-Some-untag
 returns-in-Some-untag c =
     subst (λ (w : View). (v : Value) → IsLiving (heap_of w).objects v → c.args.word ≡ word_of (heap_of w).objects v → Ref c.at.result ≡ v) c.self.view_is
-      (λ v living is. (
-        let f = found_at c.self.inside c.self.invariant v c.args.word c.in-Some-untag.index c.in-Some-untag.field-0-1 living is
-          c.in-Some-untag.ensures.tagged in
-        let there = label_there c.self.inside c.self.invariant f.name f.at_cons in
-        let read : c.at.result ≡ get_or c.self.inside.labels (f.at_cons.object.place / 2) c.at.result =
-          c.at.ensures ∙ ap (λ (n : ℕ). get_or c.self.inside.labels (n / 2) c.at.result) f.place in
-        ap Ref (read ∙ get_or_default c.self.inside.labels (f.at_cons.object.place / 2) c.at.result 0 there
-          ∙ label_is c.self.inside c.self.invariant f.name f.at_cons) ∙ sym f.value_is))
+    (λ v living is. (
+    let f = found_at c.self.inside c.self.invariant v c.args.word c.in-Some-untag.index c.in-Some-untag.field-0-1 living is
+    c.in-Some-untag.ensures.tagged in
+    let there = label_there c.self.inside c.self.invariant f.name f.at_cons in
+    let read : c.at.result ≡ get_or c.self.inside.labels (f.at_cons.object.place / 2) c.at.result =
+    c.at.ensures ∙ ap (λ (n : ℕ). get_or c.self.inside.labels (n / 2) c.at.result) f.place in
+    ap Ref (read ∙ get_or_default c.self.inside.labels (f.at_cons.object.place / 2) c.at.result 0 there
+    ∙ label_is c.self.inside c.self.invariant f.name f.at_cons) ∙ sym f.value_is))
 
 pub returns-in-None : goal.returns-in-None
 returns-in-None c =
     subst (λ (w : View). (v : Value) → IsLiving (heap_of w).objects v → c.args.word ≡ word_of (heap_of w).objects v → Nil ≡ v) c.self.view_is
-      (λ v living is. nil_at c.self.inside c.self.invariant v c.args.word living is ((c.in_default.ensures.none).0 refl) (c.in-None.ensures.none refl))
+    (λ v living is. nil_at c.self.inside c.self.invariant v c.args.word living is ((c.in_default.ensures.none).0 refl) (c.in-None.ensures.none refl))
