@@ -13,3 +13,7 @@ pub mod Commands
 pub mod Nexts
 pub mod Stepping
 pub mod Agreeing
+pub mod Starting
+pub mod Ending
+pub mod Leasing
+pub mod PageReading
