@@ -19,3 +19,7 @@ pub mod Refusing
 pub mod RegionLemmas
 pub mod PlacingLemmas
 pub mod Lending
+pub mod Starting
+pub mod Ending
+pub mod Leasing
+pub mod PageReading

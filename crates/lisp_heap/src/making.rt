@@ -2,11 +2,12 @@
 
 ghost use Rattle.std.specs.Prelude.{◌≡◌, ◌↔◌, ◌≤◌, ◌<◌, ◌*◌, [], length, replicate, option_map, IsTrue, IfOk};
 ghost use Rattle.std.specs.Option.{ForSome};
-ghost use Rattle.heap_terms.specs.Heap.{entry_at, fill_of};
+ghost use Rattle.heap_terms.specs.declared.kinds.PageType.{PageType};
+ghost use Rattle.heap_terms.specs.Heap.{entry_at, fill_of, thread_at};
 ghost use Rattle.heap_terms.specs.Valid.{IsValid};
 ghost use Rattle.lisp_heap.specs.Agreement.{Agrees, AreFresh, run_out, run_pages_of, small_out};
 ghost use Rattle.lisp_heap.specs.Parcels.{place_of, small_region};
-ghost use Rattle.lisp_heap.specs.State.{state_page};
+ghost use Rattle.lisp_heap.specs.State.{state_of, state_page};
 ghost use Rattle.lisp_heap.specs.View.{heap_of};
 
 use crate::cells::CellWords;
@@ -30,7 +31,7 @@ fn fresh_parcels(alloc: Global, threads: u32) -> Result<Vec<Parcel>, Memory>
 {
     let mut parcels = Vec::with_capacity(alloc, threads as usize)?;
     for t in 0..threads {
-        parcels.push(Parcel::empty(t)).unwrap();
+        parcels.push_reserved(Parcel::empty(t));
     }
     Ok(parcels)
 }
@@ -81,15 +82,27 @@ impl World {
         ensures { IsTrue result ↔ Agrees (heap_of self.now) parcel.now }
     {
         let owner = parcel.owner() as usize;
-        let state = if owner < self.states.len() {
-            self.states.at(owner)
-        } else {
-            ThreadState::fresh()
-        };
+        let state = self.thread_state(owner);
         self.small_agrees(parcel, state, PageType::Cons)
             && self.small_agrees(parcel, state, PageType::Boxed)
             && self.small_agrees(parcel, state, PageType::Unboxed)
             && self.run_agrees(parcel, state)
+    }
+
+    /// The state of a thread. A number that no thread has stands for a thread that has ended.
+    fn thread_state(&self, t: usize) -> ThreadState
+        ensures state { result ≡ state_of (thread_at (heap_of self.now) t) }
+        ensures pages { (ty : PageType) → ForSome (state_page result ty) (λ page. page < length (heap_of self.now).pages) }
+        ensures run { ForSome result.open_run (λ page. page < length (heap_of self.now).pages) }
+    {
+        if t < self.states.len() {
+            self.states.at(t)
+        } else {
+            ThreadState {
+                ended: true,
+                ..ThreadState::fresh()
+            }
+        }
     }
 
     /// Whether the parcel's small region of a type is on the open page of a state.
@@ -100,7 +113,8 @@ impl World {
         match (parcel.small_place(ty), state.open_page(ty)) {
             (None, None) => true,
             (Some((first, pages, next)), Some(page)) => {
-                first == page && pages == 1 && next == PAGE_WORDS * page + self.fill(page)
+                let fill = self.fill(page);
+                first == page && pages == 1 && next == PAGE_WORDS * page + fill
             }
             _ => false,
         }

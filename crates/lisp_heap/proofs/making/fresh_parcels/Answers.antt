@@ -1,25 +1,47 @@
-use Rattle.std.proofs.Common.{rules, ◌≡◌, ◌↔◌, ◌≤◌, ◌<◌, ◌*◌, [], length, replicate, option_map, IsTrue, IfOk, ℕ, ◌+◌, ◌-◌, ◌/◌, ◌%◌, Bool, true, false, nat_eq, nat_lt, List, ◌∷◌, ◌++◌, slice_index_or, slice_set, bit_and, bit_or, Fits, w8, w32, w64, Bor, MutBor}
-use Rattle.std.specs.Option.{ForSome}
-use Rattle.heap_terms.specs.Heap.{entry_at, fill_of}
-use Rattle.heap_terms.specs.Valid.{IsValid}
-use Rattle.lisp_heap.specs.Agreement.{Agrees, AreFresh, run_out, run_pages_of, small_out}
-use Rattle.lisp_heap.specs.Parcels.{place_of, small_region}
-use Rattle.lisp_heap.specs.State.{state_page}
-use Rattle.lisp_heap.specs.View.{heap_of}
+-- The parcels so far are fresh, and there is room for the rest.
+use Rattle.std.proofs.Common.{◌≡◌, ◌≢◌, ℕ, ◌+◌, ◌<◌, ◌≤◌, ◌++◌, List, [], ◌∷◌, length, arith, subst, ap, ◌∙◌, sym, refl, inl, inr}
+use Rattle.std.proofs.lemmas.List.{length_push}
+use Rattle.heap_terms.proofs.Places.{push_cases}
+use Rattle.lisp_heap.specs.Agreement.{AreFresh}
+use Rattle.lisp_heap.specs.Parcels.{ParcelView, empty_parcel}
 use Rattle.lisp_heap.proofs.making.fresh_parcels.Goals as goal
 
--- src/making.rt:32:5
+fresh_none : AreFresh [] 0
+fresh_none = record { count = refl; each = λ t d lt. absurd (omega arith) }
+
+fresh_push : (parcels : List ParcelView) (n : ℕ) (q : ParcelView) → AreFresh parcels n → q ≡ empty_parcel n → AreFresh (parcels ++ q ∷ []) (n + 1)
+fresh_push parcels n q h is = record {
+  count = omega (arith, h.count, length_push parcels q);
+  each = λ t d lt. elim (push_cases parcels t q d) [
+      inl old ↦ (
+        let apart = old.0 in
+        let below : t < n = omega (arith, h.count, below_or t n (length parcels) lt h.count apart) in
+        old.1 ∙ h.each t d below)
+    | inr new ↦ (
+        let same : n ≡ t = omega (arith, h.count, new.0) in
+        new.1 ∙ is ∙ ap empty_parcel same)
+    ] }
+  where
+    below_or : (t n m : ℕ) → t < n + 1 → m ≡ n → t ≢ m → t < n
+    below_or t n m lt e apart = omega arith
+
 pub loop-t-init : goal.loop-t-init
-loop-t-init c = ?
+loop-t-init c = record {
+  fresh = subst (λ (xs : List ParcelView). AreFresh xs 0) (sym c.in_ok-parcels.ensures.items) fresh_none;
+  len = c.in_ok-parcels.ensures.len;
+  room = c.in_ok-parcels.ensures.capacity }
 
--- src/making.rt:33:9
-pub unwrap-requires : goal.unwrap-requires
-unwrap-requires c = ?
+pub push_reserved-requires : goal.push_reserved-requires
+push_reserved-requires c = omega arith
 
--- src/making.rt:32:5
 pub loop-t-preserved : goal.loop-t-preserved
-loop-t-preserved c = ?
+loop-t-preserved c = record {
+  fresh = subst (λ (xs : List ParcelView). AreFresh xs (c.loop-t.t + 1)) (sym c.push_reserved.ensures.items)
+    (fresh_push c.loop-t.parcels.items c.loop-t.t c.empty.result c.loop-t.invariant.fresh c.empty.ensures);
+  len = omega arith;
+  room = omega arith }
 
--- src/making.rt:28:1
 pub returns : goal.returns
-returns c = ?
+returns c =
+    let all : c.loop-t.t ≡ c.args.threads = omega arith in
+    subst (λ (n : ℕ). AreFresh c.loop-t.parcels.items n) all c.loop-t.invariant.fresh

@@ -1,13 +1,8 @@
-use Rattle.std.proofs.Common.{rules, ◌≡◌, ◌↔◌, ◌+◌, ◌*◌, ◌≤◌, ℕ, [], length, IsTrue, IsSome, IsSomeAnd, Some, None, option_map, is_some, if◌then◌else◌, ◌-◌, ◌<◌, ◌/◌, ◌%◌, Bool, true, false, nat_eq, nat_lt, List, ◌∷◌, ◌++◌, slice_index_or, slice_set, bit_and, bit_or, w8, w32, w64, Bor, MutBor}
-use Rattle.std.specs.Option.{ForSome}
-use Rattle.heap_terms.specs.declared.kinds.Kind.TheVariants as kinds
-use Rattle.heap_terms.specs.declared.kinds.PageType.{PageType}
-use Rattle.heap_terms.specs.declared.kinds.PageType.TheVariants as types
-use Rattle.heap_terms.specs.Layout.{page_type_of}
-use Rattle.lisp_heap.specs.Leases.{region_view, IsLease, IsSmallLease}
-use Rattle.lisp_heap.specs.Parcels.{Fits, HasRoom, HasBuilt, IsMaking, RegionView, empty_parcel, one_if, place_of, regions_in, small_region, with_accepted, with_cons}
+-- An object that fits into a region begins far enough below its end.
+use Rattle.std.proofs.Common.{arith}
+use Rattle.heap_terms.proofs.Staying.{size_least}
 use Rattle.lisp_heap.proofs.parcels.build_in.Goals as goal
 
--- src/parcels.rt:88:9
 pub build-requires-clause-fits : goal.build-requires-clause-fits
-build-requires-clause-fits c = ?
+build-requires-clause-fits c =
+    omega (arith, (c.requires.fits c.in-Some.lease c.in-Some.is).0, size_least c.args.making.kind c.args.making.n)

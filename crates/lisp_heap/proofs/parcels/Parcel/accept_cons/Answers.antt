@@ -1,17 +1,23 @@
-use Rattle.std.proofs.Common.{rules, ◌≡◌, ◌↔◌, ◌+◌, ◌*◌, ◌≤◌, ℕ, [], length, IsTrue, IsSome, IsSomeAnd, Some, None, option_map, is_some, if◌then◌else◌, ◌-◌, ◌<◌, ◌/◌, ◌%◌, Bool, true, false, nat_eq, nat_lt, List, ◌∷◌, ◌++◌, slice_index_or, slice_set, bit_and, bit_or, w8, w32, w64, Bor, MutBor}
-use Rattle.std.specs.Option.{ForSome}
-use Rattle.heap_terms.specs.declared.kinds.Kind.TheVariants as kinds
-use Rattle.heap_terms.specs.declared.kinds.PageType.{PageType}
-use Rattle.heap_terms.specs.declared.kinds.PageType.TheVariants as types
-use Rattle.heap_terms.specs.Layout.{page_type_of}
-use Rattle.lisp_heap.specs.Leases.{region_view, IsLease, IsSmallLease}
-use Rattle.lisp_heap.specs.Parcels.{Fits, HasRoom, HasBuilt, IsMaking, RegionView, empty_parcel, one_if, place_of, regions_in, small_region, with_accepted, with_cons}
+-- The cons that is built takes two words, and the next one begins after it.
+use Rattle.std.proofs.Common.{◌≡◌, ℕ, ◌<◌, length, arith, ap, ◌∙◌, sym}
+use Rattle.lisp_heap.specs.ParcelSound.{parcel_view}
+use Rattle.lisp_heap.specs.Parcels.{with_accepted}
+use Rattle.lisp_heap.specs.declared.parcels.Parcel.TheInside.{Inside}
+use Rattle.lisp_heap.proofs.Leasing.{no_region, two_built, accepted}
 use Rattle.lisp_heap.proofs.parcels.Parcel.accept_cons.Goals as goal
+use Rattle.lisp_heap.proofs.parcels.Parcel.accept_cons.Goals.{in-Some, in_default}
 
--- src/parcels.rt:239:13
 pub accept-requires : goal.accept-requires
-accept-requires c = ?
+accept-requires c =
+    let two = two_built c.self.inside c.args.self.now c.in-Some.lease c.self.view_is c.requires c.self.invariant c.in-Some.is in
+    omega (arith, two)
 
--- src/parcels.rt:234:5
 pub returns : goal.returns
-returns c = ?
+returns c = elim c.match-self.branch [
+      in-Some w ↦ (
+        let two = two_built c.self.inside c.args.self.now w.in-Some.lease c.self.view_is c.requires c.self.invariant w.in-Some.is in
+        ap parcel_view w.self-inside-is
+          ∙ accepted c.self.inside w.in-Some.lease w.accept.new.self w.in-Some.is two w.accept.ensures
+          ∙ ap with_accepted c.self.view_is)
+    | in_default w ↦ absurd (no_region c.self.inside c.args.self.now c.self.view_is c.requires w.in_default.is)
+    ]

@@ -1,38 +1,74 @@
-use Rattle.std.proofs.Common.{rules, ◌≡◌, ◌≢◌, ◌<◌, ℕ, Some, length, OnOk, OnErr, IfOk, ◌+◌, ◌-◌, ◌*◌, ◌≤◌, ◌/◌, ◌%◌, Bool, true, false, nat_eq, nat_lt, List, [], ◌∷◌, ◌++◌, slice_index_or, slice_set, bit_and, bit_or, Fits, w8, w32, w64, Bor, MutBor}
-use Rattle.heap_terms.specs.declared.commands.Command.{Command}
+-- The end of a thread is one event.
+use Rattle.std.proofs.Common.{◌≡◌, ◌≢◌, ℕ, ◌<◌, ◌++◌, ◌∷◌, [], length, arith, subst, ap, ◌∙◌, sym, refl}
+use Rattle.heap_terms.specs.declared.events.Event.TheVariants.{Ended}
 use Rattle.heap_terms.specs.declared.pages.Next.{Next}
-use Rattle.heap_terms.specs.Histories.{command_at}
-use Rattle.heap_terms.specs.Regions.{HasNoRun, IsLowestRun}
-use Rattle.lisp_heap.specs.Agreement.{Agrees, IsBuiltFor, OthersAgree, Lends}
-use Rattle.lisp_heap.specs.Events.{Happens}
-use Rattle.lisp_heap.specs.Parcels.{ParcelView, empty_parcel, with_accepted, with_cons}
-use Rattle.lisp_heap.specs.View.{heap_of, next_of}
+use Rattle.heap_terms.specs.declared.pages.Next.TheVariants as nexts
+use Rattle.heap_terms.specs.Heap.{NamedHeap}
+use Rattle.heap_terms.specs.Histories.{after, next}
+use Rattle.lisp_heap.specs.Agreement.{Agrees}
+use Rattle.lisp_heap.specs.Parcels.{empty_parcel}
+use Rattle.lisp_heap.specs.Sound.{view_of, parts_of, IsSound}
+use Rattle.lisp_heap.specs.Standing.{Holds}
+use Rattle.lisp_heap.specs.View.{View, heap_of, next_of}
+use Rattle.lisp_heap.specs.declared.world.World.TheInside.{Inside}
+use Rattle.lisp_heap.proofs.Ending.{after_end_holds, end_next, end_others, end_empty}
+use Rattle.lisp_heap.proofs.Soundness.{heap, well_formed, states_length, cells_room}
+use Rattle.lisp_heap.proofs.Stepping.{sound_after, happens_after, heap_after, agrees_after}
+use Rattle.lisp_heap.proofs.WordReading.{thread_in}
 use Rattle.lisp_heap.proofs.world.World.end_thread.Goals as goal
 
--- src/allocating.rt:194:9
+thread_there : (s : Inside) → IsSound s → (t : ℕ) → t < length s.program.threads → t < length (heap s).threads
+thread_there s h t lt = omega (arith, (well_formed s h).threads_length)
+
+ends_here : (s : Inside) (w : View) (t : ℕ) → view_of s ≡ w → next_of w t ≡ nexts.End → next s.program (heap s) t ≡ nexts.End
+ends_here s w t e h = subst (λ (v : View). next_of v t ≡ nexts.End) (sym e) h
+
 pub clear-requires-clause-stack : goal.clear-requires-clause-stack
-clear-requires-clause-stack c = ?
+clear-requires-clause-stack c =
+    (cells_room c.self.inside c.args.t c.self.invariant (thread_in c.self.inside c.args.self.now c.self.view_is c.args.t c.requires.thread)).0
 
--- src/allocating.rt:194:9
 pub clear-requires-clause-exact : goal.clear-requires-clause-exact
-clear-requires-clause-exact c = ?
+clear-requires-clause-exact c =
+    (cells_room c.self.inside c.args.t c.self.invariant (thread_in c.self.inside c.args.self.now c.self.view_is c.args.t c.requires.thread)).1
 
--- src/allocating.rt:195:9
 pub end_state-requires : goal.end_state-requires
-end_state-requires c = ?
+end_state-requires c =
+    omega (arith, thread_in c.self.inside c.args.self.now c.self.view_is c.args.t c.requires.thread, states_length c.self.inside c.self.invariant)
 
--- src/allocating.rt:185:5
 pub invariant_of-self-2 : goal.invariant_of-self-2
-invariant_of-self-2 c = ?
+invariant_of-self-2 c =
+    let s = c.self.inside in
+    let lt = thread_in s c.args.self.now c.self.view_is c.args.t c.requires.thread in
+    let now : Inside = record { program = s.program; space = s.space; pages = s.pages; labels = s.labels; cells = c.clear.new.self;
+      states = c.end_state.new.states; commits = s.commits; history = c.push.new.self } in
+    let held : Holds (after s.program (heap s) (Ended c.args.t)) (record {
+        words = s.space; pages = s.pages; labels = s.labels; cells = c.clear.new.self; states = c.end_state.new.states; commits = s.commits }) =
+      rw (c.clear.ensures, c.end_state.ensures)
+        (after_end_holds s.program (heap s) (parts_of s) c.args.t (thread_there s c.self.invariant c.args.t lt) c.self.invariant.holds) in
+    sound_after s now (Ended c.args.t) c.self.invariant refl c.in_ok-push.ensures.items
+      (end_next s.program (heap s) c.args.t (ends_here s c.args.self.now c.args.t c.self.view_is c.requires.ends)) held
 
--- src/allocating.rt:185:5
 pub returns-clause-ok : goal.returns-clause-ok
-returns-clause-ok c = ?
+returns-clause-ok c =
+    let s = c.self.inside in
+    let now : Inside = record { program = s.program; space = s.space; pages = s.pages; labels = s.labels; cells = c.clear.new.self;
+      states = c.end_state.new.states; commits = s.commits; history = c.push.new.self } in
+    happens_after s now c.args.self.now c.args.t (Ended c.args.t) c.self.view_is refl c.in_ok-push.ensures.items refl
+      (end_next s.program (heap s) c.args.t (ends_here s c.args.self.now c.args.t c.self.view_is c.requires.ends))
 
--- src/allocating.rt:185:5
 pub returns-clause-agrees : goal.returns-clause-agrees
-returns-clause-agrees c = ?
+returns-clause-agrees c =
+    let s = c.self.inside in
+    let lt = thread_in s c.args.self.now c.self.view_is c.args.t c.requires.thread in
+    let now : Inside = record { program = s.program; space = s.space; pages = s.pages; labels = s.labels; cells = c.clear.new.self;
+      states = c.end_state.new.states; commits = s.commits; history = c.push.new.self } in
+    subst (λ (a : NamedHeap). Agrees a (empty_parcel c.args.t)) (sym (heap_after s now (Ended c.args.t) refl c.in_ok-push.ensures.items))
+      (end_empty s.program (heap s) c.args.t (thread_there s c.self.invariant c.args.t lt))
 
--- src/allocating.rt:185:5
 pub returns-clause-others : goal.returns-clause-others
-returns-clause-others c = ?
+returns-clause-others c = λ q apart. (
+    let s = c.self.inside in
+    let now : Inside = record { program = s.program; space = s.space; pages = s.pages; labels = s.labels; cells = c.clear.new.self;
+      states = c.end_state.new.states; commits = s.commits; history = c.push.new.self } in
+    agrees_after s now c.args.self.now (Ended c.args.t) q q c.self.view_is refl c.in_ok-push.ensures.items
+      (end_others s.program (heap s) c.args.t q apart))

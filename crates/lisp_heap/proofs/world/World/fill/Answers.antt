@@ -1,21 +1,17 @@
-use Rattle.std.proofs.Common.{rules, ◌≡◌, ◌↔◌, ◌≤◌, ◌<◌, ◌*◌, [], length, replicate, option_map, IsTrue, IfOk, ℕ, ◌+◌, ◌-◌, ◌/◌, ◌%◌, Bool, true, false, nat_eq, nat_lt, List, ◌∷◌, ◌++◌, slice_index_or, slice_set, bit_and, bit_or, Fits, w8, w32, w64, Bor, MutBor}
-use Rattle.std.specs.Option.{ForSome}
-use Rattle.heap_terms.specs.Heap.{entry_at, fill_of}
-use Rattle.heap_terms.specs.Valid.{IsValid}
-use Rattle.lisp_heap.specs.Agreement.{Agrees, AreFresh, run_out, run_pages_of, small_out}
-use Rattle.lisp_heap.specs.Parcels.{place_of, small_region}
-use Rattle.lisp_heap.specs.State.{state_page}
-use Rattle.lisp_heap.specs.View.{heap_of}
+-- A page is filled at most to its end.
+use Rattle.std.proofs.Common.{◌≡◌, ◌≤◌, ℕ, arith, ap}
+use Rattle.heap_terms.specs.Heap.{fill_of}
+use Rattle.lisp_heap.proofs.PageReading.{page_small, entry_most}
 use Rattle.lisp_heap.proofs.world.World.fill.Goals as goal
 
--- src/making.rt:124:5
 pub returns-in-Free-clause-page : goal.returns-in-Free-clause-page
-returns-in-Free-clause-page c = ?
+returns-in-Free-clause-page c = page_small c.self.inside c.args.self.now c.self.invariant c.self.view_is c.args.page c.requires
 
--- src/making.rt:124:5
 pub returns-in-Used-clause-most : goal.returns-in-Used-clause-most
-returns-in-Used-clause-most c = ?
+returns-in-Used-clause-most c =
+    let most : fill_of c.entry.result ≤ 512 = entry_most c.self.inside c.self.invariant c.args.page c.entry.result c.entry.ensures in
+    let same : fill_of c.entry.result ≡ c.in-Used.fill = ap fill_of c.in-Used.is in
+    omega arith
 
--- src/making.rt:124:5
 pub returns-in-Used-clause-page : goal.returns-in-Used-clause-page
-returns-in-Used-clause-page c = ?
+returns-in-Used-clause-page c = page_small c.self.inside c.args.self.now c.self.invariant c.self.view_is c.args.page c.requires

@@ -1,13 +1,16 @@
-use Rattle.std.proofs.Common.{rules, ◌≡◌, ◌↔◌, ◌≤◌, ◌<◌, ◌*◌, [], length, replicate, option_map, IsTrue, IfOk, ℕ, ◌+◌, ◌-◌, ◌/◌, ◌%◌, Bool, true, false, nat_eq, nat_lt, List, ◌∷◌, ◌++◌, slice_index_or, slice_set, bit_and, bit_or, Fits, w8, w32, w64, Bor, MutBor}
-use Rattle.std.specs.Option.{ForSome}
-use Rattle.heap_terms.specs.Heap.{entry_at, fill_of}
-use Rattle.heap_terms.specs.Valid.{IsValid}
-use Rattle.lisp_heap.specs.Agreement.{Agrees, AreFresh, run_out, run_pages_of, small_out}
-use Rattle.lisp_heap.specs.Parcels.{place_of, small_region}
-use Rattle.lisp_heap.specs.State.{state_page}
-use Rattle.lisp_heap.specs.View.{heap_of}
+-- The World at the start.
+use Rattle.std.proofs.Common.{◌≡◌, ℕ, length, ap, ◌∙◌, refl, replicate}
+use Rattle.lisp_heap.specs.Sound.{parts_of}
+use Rattle.lisp_heap.specs.State.{fresh_state}
+use Rattle.lisp_heap.specs.declared.world.World.TheInside.{Inside}
+use Rattle.lisp_heap.proofs.Starting.{holds_start, starts_sound, start_cells}
 use Rattle.lisp_heap.proofs.world.World.new.Goals as goal
 
--- src/making.rt:76:13
 pub invariant_of-world : goal.invariant_of-world
-invariant_of-world c = ?
+invariant_of-world c =
+    let s : Inside = record { program = c.args.program; space = c.in_ok-space.space; pages = c.in_ok-pages.pages; labels = c.in_ok-labels.labels;
+      cells = c.in_ok-cells.cells; states = c.in_ok-states.states; commits = 0; history = c.new-4.result } in
+    starts_sound s c.requires c.new-4.ensures.items
+      (holds_start c.args.program (parts_of s) c.in_ok-space.ensures c.in_ok-pages.ensures c.in_ok-labels.ensures
+        (c.in_ok-cells.ensures ∙ ap start_cells c.len-threads.ensures)
+        (c.in_ok-states.ensures ∙ ap (λ (n : ℕ). replicate n fresh_state) c.len-threads.ensures) refl)

@@ -1,17 +1,9 @@
-use Rattle.std.proofs.Common.{rules, ◌≡◌, ◌↔◌, ◌≤◌, ◌<◌, ◌*◌, [], length, replicate, option_map, IsTrue, IfOk, ℕ, ◌+◌, ◌-◌, ◌/◌, ◌%◌, Bool, true, false, nat_eq, nat_lt, List, ◌∷◌, ◌++◌, slice_index_or, slice_set, bit_and, bit_or, Fits, w8, w32, w64, Bor, MutBor}
-use Rattle.std.specs.Option.{ForSome}
-use Rattle.heap_terms.specs.Heap.{entry_at, fill_of}
-use Rattle.heap_terms.specs.Valid.{IsValid}
-use Rattle.lisp_heap.specs.Agreement.{Agrees, AreFresh, run_out, run_pages_of, small_out}
-use Rattle.lisp_heap.specs.Parcels.{place_of, small_region}
-use Rattle.lisp_heap.specs.State.{state_page}
-use Rattle.lisp_heap.specs.View.{heap_of}
+-- A page of a World has a small number.
+use Rattle.lisp_heap.proofs.PageReading.{page_small}
 use Rattle.lisp_heap.proofs.world.World.run_pages.Goals as goal
 
--- src/making.rt:137:5
 pub returns-in-Free-clause-page : goal.returns-in-Free-clause-page
-returns-in-Free-clause-page c = ?
+returns-in-Free-clause-page c = page_small c.self.inside c.args.self.now c.self.invariant c.self.view_is c.args.page c.requires
 
--- src/making.rt:137:5
 pub returns-in-Used-clause-page : goal.returns-in-Used-clause-page
-returns-in-Used-clause-page c = ?
+returns-in-Used-clause-page c = page_small c.self.inside c.args.self.now c.self.invariant c.self.view_is c.args.page c.requires

@@ -1,0 +1,109 @@
+-- What a World keeps before its first event stands for the heap at the start.
+use Rattle.std.proofs.Common.{◌≡◌, ℕ, ◌+◌, ◌*◌, ◌<◌, ◌≤◌, List, [], ◌∷◌, length, map, replicate, refl, sym, ◌∙◌, subst, ap, arith, get_or, Option, Some, None}
+use Rattle.std.proofs.lemmas.List.{length-replicate, length-map, get_or-replicate}
+use Rattle.std.specs.Prelude.{slice_index, slice_index_or}
+use Rattle.heap_terms.specs.declared.cells.Value.{Value}
+use Rattle.heap_terms.specs.declared.commands.Command.{Command}
+use Rattle.heap_terms.specs.declared.events.Event.{Event}
+use Rattle.heap_terms.specs.declared.pages.Entry.{Entry}
+use Rattle.heap_terms.specs.declared.pages.Entry.TheVariants.{Free}
+use Rattle.heap_terms.specs.declared.programs.Program.{Program}
+use Rattle.heap_terms.specs.Heap.{NamedHeap, Thread, start, thread_at, fresh_thread, zero_value}
+use Rattle.heap_terms.specs.Histories.{Lawful, replay}
+use Rattle.heap_terms.specs.Layout.{page_words}
+use Rattle.heap_terms.specs.Objects.{Object}
+use Rattle.heap_terms.specs.Stands.{WordsStand}
+use Rattle.heap_terms.specs.Valid.{IsValid}
+use Rattle.heap_terms.specs.Words.{word_of}
+use Rattle.heap_terms.proofs.Counting.{start_thread_is}
+use Rattle.heap_terms.proofs.Threading.{start-well_formed}
+use Rattle.lisp_heap.specs.CellsView.{CellsView, spot}
+use Rattle.lisp_heap.specs.Sound.{IsSound, parts_of}
+use Rattle.lisp_heap.specs.Standing.{CellsStand, LabelsStand, Parts, Holds}
+use Rattle.lisp_heap.specs.State.{state_of, fresh_state}
+use Rattle.lisp_heap.specs.declared.states.ThreadState.{ThreadState}
+use Rattle.lisp_heap.specs.declared.world.World.TheInside.{Inside}
+use Rattle.lisp_heap.proofs.WordLemmas.{no_fillers}
+
+-- words 0 in every page
+start_words : (p : Program) → WordsStand (start p) (replicate (page_words * p.pages) 0)
+unfolding start
+start_words p = record {
+  long = length-replicate (page_words * p.pages) 0 ∙ ap (λ (n : ℕ). page_words * n) (sym (length-replicate p.pages Free));
+  spelled = λ name. tt;
+  fillers = no_fillers p (start p) (replicate (page_words * p.pages) 0) (start-well_formed p) }
+
+start_labels : (p : Program) → LabelsStand (start p) (replicate (256 * p.pages) 0)
+unfolding start
+start_labels p = record {
+  long = length-replicate (256 * p.pages) 0 ∙ ap (λ (n : ℕ). 256 * n) (sym (length-replicate p.pages Free));
+  named = λ name. tt }
+
+-- the cells of all threads, each the fixnum 0
+abbrev pub start_cells : ℕ → CellsView
+start_cells n = record { stack = replicate (16 * n) 0; exact = replicate (16 * n) 0; shared = replicate 16 0 }
+
+start_count : (p : Program) → length (start p).threads ≡ length p.threads
+unfolding start
+start_count p = length-map p.threads (λ _. fresh_thread)
+
+-- a cell of sixteen zeros
+zero_cell : (objects : List (Option Object)) (i : ℕ) → i < 16 → 0 ≡ word_of objects (get_or (replicate 16 zero_value) i zero_value)
+zero_cell objects i h = ap (word_of objects) (sym (get_or-replicate 16 i zero_value zero_value h))
+
+shared_cell : (p : Program) (i : ℕ) → i < 16 → 0 ≡ word_of (start p).objects (get_or (start p).shared i zero_value)
+unfolding start
+shared_cell p i hi = zero_cell (start p).objects i hi
+
+start_stands : (p : Program) → CellsStand (start p) (start_cells (length p.threads))
+start_stands p =
+    let n = length p.threads in
+    record {
+      stack_length = length-replicate (16 * n) 0 ∙ ap (λ (k : ℕ). 16 * k) (sym (start_count p));
+      exact_length = length-replicate (16 * n) 0 ∙ ap (λ (k : ℕ). 16 * k) (sym (start_count p));
+      shared_length = length-replicate {A = ℕ} 16 0;
+      stack = λ t i ht hi. (
+        let lt : t < length p.threads = subst (λ (k : ℕ). t < k) (start_count p) ht in
+        let inside : spot t i < 16 * n = omega arith in
+        get_or-replicate (16 * n) (spot t i) 0 0 inside ∙ zero_cell (start p).objects i hi
+          ∙ ap (λ (x : Thread). word_of (start p).objects (get_or x.stack i zero_value)) (sym (start_thread_is p t lt)));
+      exact = λ t i ht hi. (
+        let lt : t < length p.threads = subst (λ (k : ℕ). t < k) (start_count p) ht in
+        let inside : spot t i < 16 * n = omega arith in
+        get_or-replicate (16 * n) (spot t i) 0 0 inside ∙ zero_cell (start p).objects i hi
+          ∙ ap (λ (x : Thread). word_of (start p).objects (get_or x.exact i zero_value)) (sym (start_thread_is p t lt)));
+      shared = λ i hi. get_or-replicate 16 i 0 0 hi ∙ shared_cell p i hi }
+
+start_states : (p : Program) → replicate (length p.threads) fresh_state ≡ map state_of (start p).threads
+unfolding start
+start_states p = each p.threads
+  where
+    each : (scripts : List (List Command)) → replicate (length scripts) fresh_state ≡ map state_of (map (λ _. fresh_thread) scripts)
+    each [] = refl
+    each (s ∷ scripts) = ap (λ (xs : List ThreadState). fresh_state ∷ xs) (each scripts)
+
+start_pages : (p : Program) → replicate p.pages Free ≡ (start p).pages
+unfolding start
+start_pages p = refl
+
+start_commits : (p : Program) → 0 ≡ length (start p).objects
+unfolding start
+start_commits p = refl
+
+pub holds_start : (p : Program) (v : Parts) → v.words ≡ replicate (page_words * p.pages) 0 → v.pages ≡ replicate p.pages Free →
+    v.labels ≡ replicate (256 * p.pages) 0 → v.cells ≡ start_cells (length p.threads) → v.states ≡ replicate (length p.threads) fresh_state →
+    v.commits ≡ 0 → Holds (start p) v
+holds_start p v words pages labels cells states commits = record {
+  words = subst (λ (xs : List ℕ). WordsStand (start p) xs) (sym words) (start_words p);
+  pages = pages ∙ start_pages p;
+  labels = subst (λ (xs : List ℕ). LabelsStand (start p) xs) (sym labels) (start_labels p);
+  cells = subst (λ (k : CellsView). CellsStand (start p) k) (sym cells) (start_stands p);
+  states = states ∙ start_states p;
+  commits = commits ∙ start_commits p }
+
+-- the fields of a World without a history
+pub starts_sound : (s : Inside) → IsValid s.program → s.history.items ≡ [] → Holds (start s.program) (parts_of s) → IsSound s
+starts_sound s valid empty holds = record {
+  valid = valid;
+  lawful = subst (λ (es : List Event). Lawful s.program es) (sym empty) tt;
+  holds = subst (λ (es : List Event). Holds (replay s.program es) (parts_of s)) (sym empty) holds }
