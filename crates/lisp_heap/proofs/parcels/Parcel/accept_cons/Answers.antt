@@ -14,10 +14,10 @@ accept-requires c =
 
 pub returns : goal.returns
 returns c = elim c.match-self.branch [
-      in-Some w ↦ (
-        let two = two_built c.self.inside c.args.self.now w.in-Some.lease c.self.view_is c.requires c.self.invariant w.in-Some.is in
-        ap parcel_view w.self-inside-is
-          ∙ accepted c.self.inside w.in-Some.lease w.accept.new.self w.in-Some.is two w.accept.ensures
-          ∙ ap with_accepted c.self.view_is)
-    | in_default w ↦ absurd (no_region c.self.inside c.args.self.now c.self.view_is c.requires w.in_default.is)
-    ]
+  | in-Some w ↦ (
+      let two = two_built c.self.inside c.args.self.now w.in-Some.lease c.self.view_is c.requires c.self.invariant w.in-Some.is in
+      ap parcel_view w.self-inside-is
+      ∙ accepted c.self.inside w.in-Some.lease w.accept.new.self w.in-Some.is two w.accept.ensures
+      ∙ ap with_accepted c.self.view_is)
+  | in_default w ↦ absurd (no_region c.self.inside c.args.self.now c.self.view_is c.requires w.in_default.is)
+]
