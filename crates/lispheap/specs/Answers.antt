@@ -1,0 +1,169 @@
+-- What one call of the program does: its status, what it took, what it wrote, and what it said. The statuses and
+-- their causes are this project's own.
+use Rattle.std.specs.Prelude.{◌≡◌, ◌≢◌, ℕ, ◌≤◌, ◌⊎◌, List, [], ◌∷◌, ◌++◌, length, Option, Some, None, Result, Ok, Err, if◌then◌else◌, nat_lt, codes}
+use Rattle.heap_io.specs.Streams.{Rose, GaveAll, GaveMore, GaveAtMost, Grew}
+use Rattle.heap_terms.specs.declared.programs.Program.{Program}
+use Rattle.heap_terms.specs.Reading.{read_script, Fault as ScriptFault, LineFault, LimitFault}
+use Rattle.lispheap.specs.declared.faults.Fault.{Fault}
+use Rattle.lispheap.specs.declared.faults.Fault.TheVariants as faults
+use Rattle.lispheap.specs.Journals.{IsJournal}
+use Rattle.lispheap.specs.Texts.{status_of, fault_text}
+
+-- what a call did to a stream: the bytes that it told and its count of faults, before the call and after it
+pub record Change : Type 0 where
+  pub old : Option (List ℕ)
+  pub new : Option (List ℕ)
+  pub faults_old : ℕ
+  pub faults_new : ℕ
+
+abbrev pub change : Option (List ℕ) → Option (List ℕ) → ℕ → ℕ → Change
+change old new faults_old faults_new = record { old = old; new = new; faults_old = faults_old; faults_new = faults_new }
+
+-- the stream was not touched
+pub record IsUntouched (c : Change) : Type 0 where
+  pub bytes : c.new ≡ c.old
+  pub faults : c.faults_new ≡ c.faults_old
+
+-- the stream's count of faults rose
+abbrev pub Failed : Change → Type 0
+Failed c = Rose c.faults_old c.faults_new
+
+-- the words are the one form that the program knows
+abbrev pub IsReplay : List (List ℕ) → Type 0
+IsReplay words = words ≡ codes "replay" ∷ []
+
+-- how many bytes of input there may be
+abbrev pub input_limit : ℕ
+input_limit = 4194304
+
+-- the source was read to its end, and these were its bytes, not too many
+pub record IsInput (source : Change) (bytes : List ℕ) : Type 0 where
+  pub whole : GaveAll source.old source.new bytes
+  pub within : length bytes ≤ input_limit
+
+-- more bytes were taken than there may be, or not more
+abbrev pub TookTooMany : Change → Type 0
+TookTooMany source = GaveMore source.old source.new input_limit
+
+abbrev pub TookNotTooMany : Change → Type 0
+TookNotTooMany source = GaveAtMost source.old source.new input_limit
+
+-- a text was appended to a stream, all of it
+pub record SaysAll (text : List ℕ) (c : Change) : Type 0 where
+  pub appended : Grew c.old c.new text
+
+-- the source was read to its end, and the journal of what its bytes say was appended
+pub record Writes (source out : Change) : Type 0 where
+  pub input : List ℕ
+  pub taken : IsInput source input
+  pub text : List ℕ
+  pub journal : IsJournal input text
+  pub written : SaysAll text out
+
+-- a stream stopped within a text: a proper front of it was appended, and the count of faults rose
+pub record StopsWithin (text : List ℕ) (c : Change) : Type 0 where
+  pub front : List ℕ
+  pub rest : List ℕ
+  pub whole : text ≡ front ++ rest
+  pub proper : rest ≢ []
+  pub appended : Grew c.old c.new front
+  pub rose : Failed c
+
+-- the source was read to its end, and the output stopped within the journal of what its bytes say
+pub record Stops (source out : Change) : Type 0 where
+  pub input : List ℕ
+  pub taken : IsInput source input
+  pub text : List ℕ
+  pub journal : IsJournal input text
+  pub written : StopsWithin text out
+
+-- the source was read to its end, and its bytes are no script, for this reason
+pub record IsRefused (source : Change) (fault : ScriptFault) : Type 0 where
+  pub input : List ℕ
+  pub taken : IsInput source input
+  pub read : read_script input ≡ Err fault
+
+-- why no bytes were read: the source failed, too many bytes came, or memory ran out
+abbrev pub IsUnread : Fault → Change → Type 0
+IsUnread faults.Usage source = ⊥
+IsUnread (faults.Line n why) source = ⊥
+IsUnread faults.Read source = Failed source × TookNotTooMany source
+IsUnread faults.Write source = ⊥
+IsUnread faults.TooLong source = TookTooMany source
+IsUnread (faults.Limit kind) source = ⊥
+IsUnread faults.Memory source = TookNotTooMany source
+
+-- why bytes give no journal: what reading says of them, or memory ran out
+abbrev pub Refuses : Fault → Result Program ScriptFault → Type 0
+Refuses faults.Usage read = ⊥
+Refuses (faults.Line n why) read = read ≡ Err (LineFault n why)
+Refuses faults.Read read = ⊥
+Refuses faults.Write read = ⊥
+Refuses faults.TooLong read = ⊥
+Refuses (faults.Limit kind) read = (n : ℕ) × (read ≡ Err (LimitFault n kind))
+Refuses faults.Memory read = Unit {0}
+
+-- why a journal was not written: the output stopped within it
+abbrev pub IsUnwritten : Fault → List ℕ → Change → Type 0
+IsUnwritten faults.Usage text out = ⊥
+IsUnwritten (faults.Line n why) text out = ⊥
+IsUnwritten faults.Read text out = ⊥
+IsUnwritten faults.Write text out = StopsWithin text out
+IsUnwritten faults.TooLong text out = ⊥
+IsUnwritten (faults.Limit kind) text out = ⊥
+IsUnwritten faults.Memory text out = ⊥
+
+-- how a replay ended, by what went wrong, if anything
+abbrev pub Replays : Option Fault → Change → Change → Type 0
+Replays None source out = Writes source out
+Replays (Some faults.Usage) source out = ⊥
+Replays (Some (faults.Line n why)) source out = IsRefused source (LineFault n why) × IsUntouched out
+Replays (Some faults.Read) source out = Failed source × TookNotTooMany source × IsUntouched out
+Replays (Some faults.Write) source out = Stops source out
+Replays (Some faults.TooLong) source out = TookTooMany source × IsUntouched out
+Replays (Some (faults.Limit kind)) source out = ((n : ℕ) × IsRefused source (LimitFault n kind)) × IsUntouched out
+Replays (Some faults.Memory) source out = TookNotTooMany source × IsUntouched out
+
+-- how the call ended: the words are no form, and nothing was touched, or they are, and a replay ended so
+abbrev pub Ends : Option Fault → List (List ℕ) → Change → Change → Type 0
+Ends None words source out = IsReplay words × Replays None source out
+Ends (Some faults.Usage) words source out = (¬ IsReplay words) × IsUntouched source × IsUntouched out
+Ends (Some (faults.Line n why)) words source out = IsReplay words × Replays (Some (faults.Line n why)) source out
+Ends (Some faults.Read) words source out = IsReplay words × Replays (Some faults.Read) source out
+Ends (Some faults.Write) words source out = IsReplay words × Replays (Some faults.Write) source out
+Ends (Some faults.TooLong) words source out = IsReplay words × Replays (Some faults.TooLong) source out
+Ends (Some (faults.Limit kind)) words source out = IsReplay words × Replays (Some (faults.Limit kind)) source out
+Ends (Some faults.Memory) words source out = IsReplay words × Replays (Some faults.Memory) source out
+
+-- the text was appended, or the stream stopped within it
+abbrev pub Says : List ℕ → Change → Type 0
+Says text c = SaysAll text c ⊎ StopsWithin text c
+
+-- what was said: nothing where all went well, and else the fault's line
+abbrev pub Reports : Option Fault → Change → Type 0
+Reports None err = IsUntouched err
+Reports (Some fault) err = Says (fault_text fault) err
+
+-- What a call answers: something went wrong or nothing did, and that tells the status, what was taken and written,
+-- and what was said.
+pub record Answers (words : List (List ℕ)) (source out err : Change) (status : ℕ) : Type 0 where
+  pub fault : Option Fault
+  pub ended : status ≡ status_of fault
+  pub ends : Ends fault words source out
+  pub reports : Reports fault err
+
+-- the status that an input should have
+abbrev pub status_read : Result Program ScriptFault → ℕ
+status_read (Ok program) = 0
+status_read (Err (LineFault n why)) = 3
+status_read (Err (LimitFault n kind)) = 6
+
+abbrev pub status_for : List ℕ → ℕ
+status_for bytes = if nat_lt input_limit (length bytes) then 6 else status_read (read_script bytes)
+
+-- Where the words are the form, the source tells its bytes, and neither it nor the output failed, the status is that
+-- of the bytes, or memory ran out.
+abbrev pub IsExact : List (List ℕ) → Change → Change → ℕ → Type 0
+IsExact words source out status =
+    (bytes : List ℕ) → IsReplay words → source.old ≡ Some bytes → (¬ Failed source) → (¬ Failed out)
+    → (status ≡ status_for bytes) ⊎ (status ≡ 7)

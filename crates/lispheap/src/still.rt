@@ -1,0 +1,183 @@
+//! The call that waits for nobody: it reads a script, replays it, and writes its journal.
+
+ghost use Rattle.std.specs.Prelude.{◌≡◌, ◌↔◌, ◌<◌, ◌≤◌, ◌-◌, ◌^◌, None, Some, IsTrue, OnOk, IfOk, IfErr, codes, length, map};
+ghost use Rattle.std.specs.String.{string_bytes};
+ghost use Rattle.heap_terms.specs.Reading.{read_script};
+ghost use Rattle.heap_terms.specs.Valid.{IsValid};
+ghost use Rattle.lispheap.specs.Answers.{change, Answers, Ends, IsExact, IsReplay, IsInput, IsUnread, IsUnwritten, SaysAll, Refuses, Replays, Reports};
+ghost use Rattle.lispheap.specs.Journals.{IsJournal, IsJournalOf};
+ghost use Rattle.lispheap.specs.Texts.{status_of};
+
+use crate::faults::{Fault, put_text, say};
+use crate::journal::journal_of;
+use heap_io::{ReadFault, Sink, Source, read_all};
+use heap_terms::{Memory, Program};
+use replay_core::run_schedule;
+use script_text::{ScriptFault, parse};
+use std::alloc::Global;
+
+// How many bytes of input there may be.
+const INPUT_LIMIT: u64 = 4_194_304;
+
+/// Does what the words say and answers the status: 0 done, 2 usage, 3 no script, 4 read fault, 5
+/// write fault, 6 a limit, 7 out of memory. The one form of words is `replay`: the source is read to
+/// its end as a script, the script runs by its schedule, and its journal is written to `out`. What
+/// went wrong is said on `err` in one line, and a fault of `err` changes no status. The order is:
+/// usage, read, too long, grammar, run, write; want of memory may come at each of them before the
+/// write.
+pub fn lispheap_still<S: Source, K: Sink, E: Sink>(
+    alloc: Global,
+    words: &[String],
+    source: &mut S,
+    out: &mut K,
+    err: &mut E,
+) -> u8
+    ensures answers { Answers (map string_bytes words.now)
+        (change (S.contents source.old) (S.contents source.new) (S.faults source.old) (S.faults source.new))
+        (change (K.contents out.old) (K.contents out.new) (K.faults out.old) (K.faults out.new))
+        (change (E.contents err.old) (E.contents err.new) (E.faults err.old) (E.faults err.new))
+        result }
+
+    // The words alone decide this status.
+    ensures usage { (result ≡ 2) ↔ ¬ IsReplay (map string_bytes words.now) }
+
+    // Without a fault of the source or of `out` the bytes alone decide the status, unless memory runs out.
+    ensures exact { IsExact (map string_bytes words.now)
+        (change (S.contents source.old) (S.contents source.new) (S.faults source.old) (S.faults source.new))
+        (change (K.contents out.old) (K.contents out.new) (K.faults out.old) (K.faults out.new))
+        result }
+{
+    answer(alloc, words, source, out, err)
+}
+
+// The same, without the two clauses that follow from what it answers.
+fn answer<S: Source, K: Sink, E: Sink>(
+    alloc: Global,
+    words: &[String],
+    source: &mut S,
+    out: &mut K,
+    err: &mut E,
+) -> u8
+    ensures { Answers (map string_bytes words.now)
+        (change (S.contents source.old) (S.contents source.new) (S.faults source.old) (S.faults source.new))
+        (change (K.contents out.old) (K.contents out.new) (K.faults out.old) (K.faults out.new))
+        (change (E.contents err.old) (E.contents err.new) (E.faults err.old) (E.faults err.new))
+        result }
+{
+    match perform(alloc, words, source, out) {
+        Ok(()) => 0,
+        Err(fault) => report(err, fault),
+    }
+}
+
+// Says what went wrong, and answers its status.
+fn report<E: Sink>(err: &mut E, fault: Fault) -> u8
+    ensures status { result ≡ status_of (Some fault) }
+    ensures reports { Reports (Some fault)
+        (change (E.contents err.old) (E.contents err.new) (E.faults err.old) (E.faults err.new)) }
+{
+    let _ = say(err, fault);
+    fault.status()
+}
+
+// Does what the words say.
+fn perform<S: Source, K: Sink>(
+    alloc: Global,
+    words: &[String],
+    source: &mut S,
+    out: &mut K,
+) -> Result<(), Fault>
+    ensures done { OnOk result (Ends None (map string_bytes words.now)
+        (change (S.contents source.old) (S.contents source.new) (S.faults source.old) (S.faults source.new))
+        (change (K.contents out.old) (K.contents out.new) (K.faults out.old) (K.faults out.new))) }
+    ensures failed { IfErr result (λ fault. Ends (Some fault) (map string_bytes words.now)
+        (change (S.contents source.old) (S.contents source.new) (S.faults source.old) (S.faults source.new))
+        (change (K.contents out.old) (K.contents out.new) (K.faults out.old) (K.faults out.new))) }
+{
+    if !is_replay(words) {
+        return Err(Fault::Usage);
+    }
+    replay(alloc, source, out)
+}
+
+// Whether the words are the one form that the program knows.
+fn is_replay(words: &[String]) -> bool
+    ensures { IsTrue result ↔ IsReplay (map string_bytes words.now) }
+{
+    match words {
+        [word] => is_word(word),
+        _ => false,
+    }
+}
+
+// Whether a word is `replay`.
+fn is_word(word: &String) -> bool
+    ensures { IsTrue result ↔ (string_bytes word.now ≡ codes "replay") }
+{
+    word.as_str() == "replay"
+}
+
+// Reads a script, replays it, and writes its journal.
+fn replay<S: Source, K: Sink>(alloc: Global, source: &mut S, out: &mut K) -> Result<(), Fault>
+    ensures done { OnOk result (Replays None
+        (change (S.contents source.old) (S.contents source.new) (S.faults source.old) (S.faults source.new))
+        (change (K.contents out.old) (K.contents out.new) (K.faults out.old) (K.faults out.new))) }
+    ensures failed { IfErr result (λ fault. Replays (Some fault)
+        (change (S.contents source.old) (S.contents source.new) (S.faults source.old) (S.faults source.new))
+        (change (K.contents out.old) (K.contents out.new) (K.faults out.old) (K.faults out.new))) }
+{
+    let bytes = read(alloc, source)?;
+    let journal = journal_for(alloc, &bytes)?;
+    write(out, &journal)
+}
+
+// Writes a journal.
+fn write<K: Sink>(out: &mut K, text: &[u8]) -> Result<(), Fault>
+    ensures written { OnOk result (SaysAll text.now
+        (change (K.contents out.old) (K.contents out.new) (K.faults out.old) (K.faults out.new))) }
+    ensures stopped { IfErr result (λ fault. IsUnwritten fault text.now
+        (change (K.contents out.old) (K.contents out.new) (K.faults out.old) (K.faults out.new))) }
+{
+    match put_text(out, text) {
+        Ok(()) => Ok(()),
+        Err(_) => Err(Fault::Write),
+    }
+}
+
+// Reads the source to its end.
+fn read<S: Source>(alloc: Global, source: &mut S) -> Result<Vec<u8>, Fault>
+    ensures read { IfOk result (λ bytes. IsInput
+        (change (S.contents source.old) (S.contents source.new) (S.faults source.old) (S.faults source.new)) bytes.items) }
+    ensures failed { IfErr result (λ fault. IsUnread fault
+        (change (S.contents source.old) (S.contents source.new) (S.faults source.old) (S.faults source.new))) }
+{
+    match read_all(alloc, source, INPUT_LIMIT) {
+        Ok(bytes) => Ok(bytes),
+        Err(ReadFault::Read) => Err(Fault::Read),
+        Err(ReadFault::TooLong) => Err(Fault::TooLong),
+        Err(ReadFault::Memory) => Err(Fault::Memory),
+    }
+}
+
+// The journal of what a script says.
+fn journal_for(alloc: Global, bytes: &[u8]) -> Result<Vec<u8>, Fault>
+    requires { length bytes.now ≤ 4194304 }
+    ensures journal { IfOk result (λ text. IsJournal bytes.now text.items) }
+    ensures refused { IfErr result (λ fault. Refuses fault (read_script bytes.now)) }
+{
+    match parse(alloc, bytes) {
+        Ok(program) => Ok(run(alloc, program)?),
+        Err(ScriptFault::Line(n, why)) => Err(Fault::Line(n, why)),
+        Err(ScriptFault::Limit(_, kind)) => Err(Fault::Limit(kind)),
+        Err(ScriptFault::Memory) => Err(Fault::Memory),
+    }
+}
+
+// The journal of a program.
+fn run(alloc: Global, program: Program) -> Result<Vec<u8>, Memory>
+    requires { IsValid program }
+    ensures { IfOk result (λ text. IsJournalOf program text.items) }
+{
+    let replay = run_schedule(alloc, program)?;
+    journal_of(alloc, replay.world.history())
+}
