@@ -1,7 +1,5 @@
 -- What is known of the pages and the threads of a sound World.
 use Rattle.std.proofs.Common.{◌≡◌, ℕ, ◌+◌, ◌<◌, ◌≤◌, List, length, refl, sym, ◌∙◌, subst, ap, arith, Option, Some, None, get_or, inl, inr}
-use Rattle.std.proofs.lemmas.Bool.{cases_lt}
-use Rattle.std.proofs.lemmas.List.{get_or_past}
 use Rattle.std.specs.Option.{ForSome}
 use Rattle.heap_terms.specs.declared.kinds.PageType.{PageType}
 use Rattle.heap_terms.specs.declared.kinds.PageType.TheVariants as types
@@ -23,17 +21,6 @@ pub page_small : (s : Inside) (w : View) → IsSound s → view_of s ≡ w → (
 page_small s w h e page lt =
     let here : page < length (heap s).pages = subst (λ (v : View). page < length (heap_of v).pages) (sym e) lt in
     omega (arith, here, (well_formed s h).pages_length, h.valid.pages_most)
-
--- the state of a number that no thread has
-pub state_past : (s : Inside) → IsSound s → (t : ℕ) (state : ThreadState) → length s.states ≤ t → state ≡ state_of (ended_thread fresh_thread) →
-    state ≡ state_of (thread_at (heap s) t)
-state_past s h t state past is =
-    let beyond : length (heap s).threads ≤ t = omega (arith, (well_formed s h).threads_length, states_length s h) in
-    is ∙ ap state_of (sym (get_or_past (heap s).threads t (ended_thread fresh_thread) beyond))
-
-pub state_here : (s : Inside) → IsSound s → (t : ℕ) (state : ThreadState) → t < length s.states → state ≡ get_or s.states t state →
-    state ≡ state_of (thread_at (heap s) t)
-state_here s h t state lt is = state_is s h t state (omega (arith, states_length s h)) is
 
 -- the open pages and the open run of a thread's state are pages
 state_open : (a : NamedHeap) (t : ℕ) (state : ThreadState) (ty : PageType) (page : ℕ) → state ≡ state_of (thread_at a t) → state_page state ty ≡ Some page →
@@ -61,3 +48,9 @@ pub entry_most : (s : Inside) → IsSound s → (page : ℕ) (entry : Entry) →
 entry_most s h page entry is =
     let same : fill_of entry ≡ fill_of (entry_at (heap s).pages page) = ap fill_of (is ∙ ap (λ (ps : List Entry). entry_at ps page) h.holds.pages) in
     omega (arith, same, ((well_formed s h).fills page).most)
+
+-- the state that was read is that of the thread of the view
+pub state_seen : (s : Inside) (w : View) → IsSound s → view_of s ≡ w → (t : ℕ) (state : ThreadState) → t < length s.states → state ≡ get_or s.states t state →
+    state ≡ state_of (thread_at (heap_of w) t)
+state_seen s w h e t state lt is =
+    subst (λ (v : View). state ≡ state_of (thread_at (heap_of v) t)) e (state_is s h t state (omega (arith, states_length s h)) is)
