@@ -10,3 +10,4 @@ pub mod Closing
 pub mod Looking
 pub mod Handing
 pub mod Releasing
+pub mod Machine

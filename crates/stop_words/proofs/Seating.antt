@@ -40,3 +40,19 @@ module _ {P : Type 0} (owner : P → ℕ) where
       subst (λ j. StopRule owner j (opening words slots first_view)) (sym same)
       (subst (λ (ws : List ℕ). StopRule owner k (opening ws slots first_view)) (sym words_are)
       (subst (λ (xs : List (Option P)). StopRule owner k (opening (0 ∷ replicate k 4) xs first_view)) (sym slots_are) (begins owner k parcels owned some_thread)))
+
+get_front : {A : Type 0} (xs : List A) (x y : A) (i : ℕ) → slice_get xs i ≡ Some y → slice_get (xs ++ x ∷ []) i ≡ Some y
+get_front [] x y i e = absurd (cc)
+get_front (z ∷ xs) x y zero e = e
+get_front (z ∷ xs) x y (suc i) e = get_front xs x y i e
+
+get_end : {A : Type 0} (xs : List A) (x : A) → slice_get (xs ++ x ∷ []) (length xs) ≡ Some x
+get_end [] x = refl
+get_end (z ∷ xs) x = get_end xs x
+
+module _ {P : Type 0} {G : Ghosts P} (words : StopWords P) where
+  pub fresh_rest : (xs ys : List (StopSeat P G)) (x : StopSeat P G) → xs ≡ ys ++ x ∷ [] → AllFresh words xs → AllFresh words ys
+  fresh_rest xs ys x is all i seat e = all i seat (ap (λ l. slice_get l i) is ∙ get_front ys x seat i e)
+
+  pub fresh_last : (xs ys : List (StopSeat P G)) (x : StopSeat P G) (n : ℕ) → xs ≡ ys ++ x ∷ [] → length ys ≡ n → AllFresh words xs → Fresh words n x
+  fresh_last xs ys x n is count all = subst (λ k. Fresh words k x) count (all (length ys) x (ap (λ l. slice_get l (length ys)) is ∙ get_end ys x))

@@ -23,6 +23,7 @@ pub struct Gathered<P> {
 }
 
 /// A thread has not parked yet. The parcel and the list come back as they were.
+#[derive(Drop)]
 pub struct NotYet<P> {
     /// The lowest other thread that was not found parked.
     pub thread: u32,

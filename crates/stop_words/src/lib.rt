@@ -1,4 +1,10 @@
-//! Stop words.
+//! The stop words on atomics: how running threads stop for a collection.
+//!
+//! There is one word for the turn to collect, and for each thread one word and one slot, in which the thread's
+//! parcel lies while the thread is parked. A thread does its steps through its `StopSeat`; each step is one atomic
+//! exchange, which is a step of the word machine of `pseudo_atomic`. No call but `StopWords::new` takes memory, and
+//! none waits or takes a lock. The bits, the steps and the passing of parcels are this project's own; that a
+//! collection waits for the end of a section is after SBCL's pseudo-atomic sections.
 #![tactic(auto)]
 
 mod gather;
@@ -7,11 +13,14 @@ mod rule;
 mod seats;
 mod steps;
 mod table;
+#[cfg(test)]
+mod tests;
 pub mod view;
 #[cfg(test)]
 mod worker;
 
 pub use gather::{Gathered, NotYet};
+pub use heap_terms::Owned;
 pub use replies::{Claim, Entry, Resumed};
 pub use seats::{StopSeat, StopWords};
 pub use table::NoTable;

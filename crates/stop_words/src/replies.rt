@@ -1,6 +1,7 @@
 //! What the calls answer.
 
 /// Whether a thread that was parked runs again.
+#[derive(Drop)]
 pub enum Resumed<P> {
     /// The thread runs, with its parcel.
     Back(P),

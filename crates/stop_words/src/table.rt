@@ -12,6 +12,7 @@ use pseudo_atomic::PARKED;
 use std::alloc::{AllocError, Global};
 
 /// Want of memory, and nothing else. The parcels come back as they were.
+#[derive(Drop)]
 pub struct NoTable<P> {
     pub parcels: Vec<P>,
 }

@@ -1,5 +1,6 @@
-//! A worker over the public calls alone, for the tests.
-ghost use Rattle.std.specs.Prelude.{◌≡◌, ◌≤◌, true, false, [], vec_capacity, MatchOption, MatchResult};
+//! A worker over the public calls alone, for the tests. No function here takes a handle, so none of the calls waits
+//! or takes a lock.
+ghost use Rattle.std.specs.Prelude.{◌≡◌, ◌≤◌, true, false, [], vec_capacity, IfOk, IfErr, MatchOption, MatchResult};
 ghost use Rattle.stop_words.specs.Places.{is_in};
 ghost use Rattle.stop_words.specs.Views.{PostedToAll};
 ghost use Rattle.stop_words.specs.Seats.{view_of, is_out, IsSeatOf, threads_of};
@@ -56,6 +57,7 @@ pub fn collect<P: Owned>(
     ensures seat { IsSeatOf seat.new words.now × (is_out seat.new ≡ false) }
     ensures thread { (view_of seat.new).thread ≡ (view_of seat.old).thread }
     ensures place { MatchResult result (λ _. (view_of seat.new).place ≡ Place.Outside) (λ _. (view_of seat.new).place ≡ Place.Holding) }
+    ensures posted { IfErr result (λ _. (view_of seat.new).posted ≡ (view_of seat.old).posted) }
     ensures given { MatchResult result (λ r. (P.owner_of r.0 ≡ (view_of seat.old).thread) × (r.1.items ≡ []) × (threads_of words.now ≤ vec_capacity r.1)) (λ e. (P.owner_of e.own ≡ (view_of seat.old).thread) × (e.into.items ≡ []) × (threads_of words.now ≤ vec_capacity e.into)) }
 {
     let gathered = words.gather(seat, own, into)?;
@@ -74,6 +76,7 @@ pub fn work<P: Owned>(
     requires room { (into.items ≡ []) × (threads_of words.now ≤ vec_capacity into) }
     ensures seat { IsSeatOf seat.new words.now × (is_out seat.new ≡ false) }
     ensures place { MatchResult result (λ _. (view_of seat.new).place ≡ Place.Parked) (λ _. (view_of seat.new).place ≡ Place.Holding) }
+    ensures room { IfOk result (λ into. (into.items ≡ []) × (threads_of words.now ≤ vec_capacity into)) }
 {
     let parcel = match words.resume(seat) {
         Resumed::Back(parcel) => parcel,
