@@ -9,3 +9,4 @@ pub mod Scheduled
 pub mod Script
 pub mod Fitting
 pub mod Validity
+pub mod Spelled

@@ -172,12 +172,12 @@ front_of bytes = take (field_len bytes) bytes
 abbrev after_of : List ℕ → List ℕ
 after_of bytes = drop (field_len bytes) bytes
 
-field_len-none : (bytes : List ℕ) → ends_field bytes ≡ true → field_len bytes ≡ 0
+pub field_len-none : (bytes : List ℕ) → ends_field bytes ≡ true → field_len bytes ≡ 0
 unfolding field_len
 field_len-none [] h = refl
 field_len-none (b ∷ bytes) h = rw h refl
 
-field_len-cons : (b : ℕ) (bytes : List ℕ) → ends_field (b ∷ bytes) ≡ false → field_len (b ∷ bytes) ≡ suc (field_len bytes)
+pub field_len-cons : (b : ℕ) (bytes : List ℕ) → ends_field (b ∷ bytes) ≡ false → field_len (b ∷ bytes) ≡ suc (field_len bytes)
 unfolding field_len
 field_len-cons b bytes h = rw h refl
 
@@ -254,7 +254,7 @@ Taken-field (b ∷ bytes) n e =
 
 -- ---- loops over bytes
 
-next-byte : (bytes : List ℕ) (n : ℕ) → n < length bytes → drop n bytes ≡ get_or bytes n 0 ∷ drop (n + 1) bytes
+pub next-byte : (bytes : List ℕ) (n : ℕ) → n < length bytes → drop n bytes ≡ get_or bytes n 0 ∷ drop (n + 1) bytes
 next-byte bytes n lt = rw add-one (drop-cons bytes n 0 lt)
 
 pub blank_more : (bytes : List ℕ) (n : ℕ) → n < length bytes → is_blank (get_or bytes n 0) ≡ true → SameLeft bytes (drop n bytes) → SameLeft bytes (drop (n + 1) bytes)

@@ -92,7 +92,7 @@ pub(crate) fn command(name: Name, left: &mut Cursor) -> Result<Command, Why>
     let start = left.here();
     match front(name, left) {
         Ok(command) => {
-            if left.has_fields(0) {
+            if left.is_at_end() {
                 Ok(command)
             } else {
                 Err(Why::Fields)

@@ -1,15 +1,17 @@
 //! The bytes of a script that are not read yet.
 
-ghost use Rattle.std.specs.Prelude.{◌≡◌, ◌↔◌, ◌<◌, ◌≤◌, ◌+◌, ◌==◌, [], ◌∷◌, IfOk, IfErr, OnOk, length, drop, false, IsTrue, MatchOption, slice_index};
+ghost use Rattle.std.specs.Prelude.{ℕ, List, ◌≡◌, ◌↔◌, ◌<◌, ◌≤◌, ◌+◌, ◌==◌, [], ◌∷◌, IfOk, IfErr, OnOk, length, drop, false, IsTrue, MatchOption, slice_index};
 ghost use Rattle.std.specs.Str.Lines.{lines};
 ghost use Rattle.script_text.specs.Left.{ends_field, field_len, SameLeft, starts_with_blank, Taken, NoneLeft, fields_left, lines_after};
 ghost use Rattle.heap_terms.specs.Fields.{is_blank};
-ghost use Rattle.heap_terms.specs.Fields.{ranged, is_fixnum, signed_of};
+ghost use Rattle.heap_terms.specs.Fields.{ranged, is_fixnum, signed_of, turns_of};
+ghost use Rattle.script_text.specs.Values.{one_by_one};
 ghost use Rattle.heap_terms.specs.declared.faults.Why.TheVariants.{Fields};
 ghost use Rattle.script_text.specs.Answers.{only_field};
 ghost use Rattle.script_text.specs.Commands.{Moved, but_first, in_first, a_cell, an_index};
 
-use crate::values::{cell, fixnum, number_up_to};
+use crate::plain::{plain_cell, plain_digit};
+use crate::values::{cell, fixnum, number_up_to, turn_of_digit, turns_in, Turns};
 use heap_terms::{Cell, Why};
 use std::marker::Model;
 
@@ -125,7 +127,7 @@ impl<'a> Cursor<'a> {
         ensures lines { OnOk result (lines_after self.new ≡ lines_after self.old) }
     {
         let field = self.field()?;
-        if self.has_fields(0) {
+        if self.is_at_end() {
             Ok(field)
         } else {
             Err(Why::Fields)
@@ -137,6 +139,10 @@ impl<'a> Cursor<'a> {
         ensures value { result ≡ in_first a_cell (fields_left self.old) }
         ensures moved { OnOk result (Moved self.old self.new) }
     {
+        if let Some((cell, after)) = plain_cell(self.rest) {
+            self.rest = after;
+            return Ok(cell);
+        }
         let field = self.field()?;
         cell(field)
     }
@@ -146,6 +152,10 @@ impl<'a> Cursor<'a> {
         ensures value { result ≡ in_first an_index (fields_left self.old) }
         ensures moved { OnOk result (Moved self.old self.new) }
     {
+        if let Some((digit, after)) = plain_digit(self.rest) {
+            self.rest = after;
+            return Ok(u32::from(digit));
+        }
         let field = self.field()?;
         number_up_to(field, 65535)
     }
@@ -164,6 +174,32 @@ impl<'a> Cursor<'a> {
         ensures { lines self.new ≡ lines_after self.old }
     {
         self.rest = after_line(self.rest);
+    }
+
+    /// Whether no field is left in the line.
+    #[tactic(auto, using(crate::proofs::Spelled::lf_ends))]
+    pub(crate) fn is_at_end(&self) -> bool
+        ensures { result ≡ (length (fields_left self.now) == 0) }
+    {
+        let rest = self.rest;
+        if !rest.is_empty() && rest[0] == b'\n' {
+            return true;
+        }
+        self.has_fields(0)
+    }
+
+    /// The turns of the next field of a schedule, in a script with so many threads.
+    pub(crate) fn turns(&mut self, threads: u32) -> Option<Result<Turns, Why>>
+        ensures { MatchOption result (NoneLeft self.old self.new) (λ turns. (field : List ℕ) × Taken self.old field self.new × (one_by_one turns ≡ turns_of threads field)) }
+    {
+        if let Some((digit, after)) = plain_digit(self.rest) {
+            self.rest = after;
+            return Some(turn_of_digit(digit, threads));
+        }
+        match self.next_field() {
+            Some(field) => Some(turns_in(field, threads)),
+            None => None,
+        }
     }
 
     /// Whether so many fields are left in the line.

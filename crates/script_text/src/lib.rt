@@ -4,6 +4,7 @@
 mod commands;
 mod cursor;
 mod faults;
+mod plain;
 mod reader;
 mod schedules;
 mod values;

@@ -138,7 +138,7 @@ impl Reader {
         ensures judged { IsJudged result self.new (within_limits self.old (schedule_of (length self.old.program.threads) (fields_left left.old))) }
         ensures lines { OnOk result (lines_after left.new ≡ lines_after left.old) }
     {
-        if left.has_fields(0) {
+        if left.is_at_end() {
             return Err(LineFault::Bad(Why::Fields));
         }
         let threads = self.threads.len() as u32;
@@ -169,13 +169,13 @@ impl Reader {
                 self.heap(pages)
             }
             Keyword::Thread => {
-                if !left.has_fields(0) {
+                if !left.is_at_end() {
                     return Err(LineFault::Bad(Why::Fields));
                 }
                 self.thread(alloc)
             }
             Keyword::End => {
-                if !left.has_fields(0) {
+                if !left.is_at_end() {
                     return Err(LineFault::Bad(Why::Fields));
                 }
                 self.place = Place::End;

@@ -30,8 +30,8 @@ fn check_turns(threads: u32, left: &mut Cursor) -> Result<(), Why>
     ensures good { IfOk result (λ _. (ts : List ℕ) × (turns_of_all threads (fields_left left.old) ≡ Ok ts)) }
     ensures bad { IfErr result (λ why. turns_of_all threads (fields_left left.old) ≡ Err why) }
 {
-    while let Some(field) = left.next_field() {
-        turns_in(field, threads)?;
+    while let Some(turns) = left.turns(threads) {
+        turns?;
     }
     Ok(())
 }
@@ -47,8 +47,8 @@ pub(crate) fn add_turns(
     ensures most { length schedule.new.items ≤ 1000000 }
     ensures lines { OnOk result (lines_after left.new ≡ lines_after left.old) }
 {
-    while let Some(field) = left.next_field() {
-        let turns = turns_in(field, threads)?;
+    while let Some(turns) = left.turns(threads) {
+        let turns = turns?;
         if turns.count as usize > MOST_TURNS - schedule.len() {
             check_turns(threads, left)?;
             return Err(LineFault::Over(LimitKind::Schedule));

@@ -1,0 +1,193 @@
+-- Fields in their usual spelling.
+use Rattle.std.proofs.Common.{◌≡◌, ℕ, ◌+◌, ◌-◌, ◌*◌, ◌≤◌, ◌<◌, zero, suc, Bool, true, false, cond, eqb, ltb, leb, ◌&&◌, ◌||◌, not, List, [], ◌∷◌, length, take, drop, get_or, Option, Some, None, Result, Ok, Err, refl, sym, ap, ◌∙◌, subst, arith, inl, inr}
+use Rattle.std.specs.Prelude.{ok_or, option_map, option_and_then}
+use Rattle.std.specs.Char.{is_digit, digit_value}
+use Rattle.std.specs.List.{list_all}
+use Rattle.std.specs.Str.Parse.{digits_value}
+use Rattle.std.proofs.lemmas.Bool.{ne_eqb, or_cases, eqb-true, lt-ltb, le-ltb, le-leb}
+use Rattle.std.proofs.lemmas.Str.{digit_value_digit}
+use Rattle.heap_terms.specs.declared.cells.Cell.{Cell}
+use Rattle.heap_terms.specs.declared.cells.Cell.TheVariants.{Stack, Exact, Shared}
+use Rattle.heap_terms.specs.declared.faults.Why.{Why}
+use Rattle.heap_terms.specs.declared.faults.Why.TheVariants.{Form, Range}
+use Rattle.heap_terms.specs.Fields.{◌>>=◌, fields_of, is_blank, is_numeral, number_of, cell_number, cell_of, ranged, at_most, turns_of, turns_of_parts}
+use Rattle.script_text.specs.Commands.{an_index}
+use Rattle.script_text.specs.Left.{ends_field, field_len, fields_left, SameLeft, Taken}
+use Rattle.script_text.proofs.Digits.{digit_yes}
+use Rattle.script_text.proofs.Lines.{lines-lf, SameLeft-blank, Taken-field, field_len-none, field_len-cons}
+
+-- a byte that is no blank, LF or CR
+record IsSolid (b : ℕ) : Type 0 where
+  blank : is_blank b ≡ false
+  lf : eqb b 10 ≡ false
+  cr : eqb b 13 ≡ false
+
+solid_inside : (b : ℕ) (bytes : List ℕ) → IsSolid b → ends_field (b ∷ bytes) ≡ false
+solid_inside b bytes s = rw (s.blank, s.lf, s.cr) refl
+
+digit_solid : (b : ℕ) → 48 ≤ b → IsSolid b
+digit_solid b low =
+    let space : eqb b 32 ≡ false = ne_eqb b 32 (λ (e : b ≡ 32). omega arith) in
+    let tab : eqb b 9 ≡ false = ne_eqb b 9 (λ (e : b ≡ 9). omega arith) in
+    record { blank = rw (space, tab) refl; lf = ne_eqb b 10 (λ (e : b ≡ 10). omega arith); cr = ne_eqb b 13 (λ (e : b ≡ 13). omega arith) }
+
+plain_end : (b : ℕ) (bytes : List ℕ) → (eqb b 32 || eqb b 10) ≡ true → ends_field (b ∷ bytes) ≡ true
+plain_end b bytes h = elim (or_cases (eqb b 32) (eqb b 10) h) [ inl space ↦ rw (eqb-true b 32 space) refl | inr lf ↦ rw (eqb-true b 10 lf) refl ]
+
+-- ---- how long a field is
+
+len_one : (a b : ℕ) (bytes : List ℕ) → IsSolid a → (eqb b 32 || eqb b 10) ≡ true → field_len (a ∷ b ∷ bytes) ≡ 1
+len_one a b bytes s h = field_len-cons a (b ∷ bytes) (solid_inside a (b ∷ bytes) s) ∙ ap suc (field_len-none (b ∷ bytes) (plain_end b bytes h))
+
+len_two : (a b c : ℕ) (bytes : List ℕ) → IsSolid a → IsSolid b → (eqb c 32 || eqb c 10) ≡ true → field_len (a ∷ b ∷ c ∷ bytes) ≡ 2
+len_two a b c bytes s t h = field_len-cons a (b ∷ c ∷ bytes) (solid_inside a (b ∷ c ∷ bytes) s) ∙ ap suc (len_one b c bytes t h)
+
+first_two : (bytes : List ℕ) → 2 ≤ length bytes → bytes ≡ get_or bytes 0 0 ∷ get_or bytes 1 0 ∷ drop 2 bytes
+first_two [] h = absurd (omega arith)
+first_two (a ∷ []) h = absurd (omega arith)
+first_two (a ∷ b ∷ bytes) h = refl
+
+first_three : (bytes : List ℕ) → 3 ≤ length bytes → bytes ≡ get_or bytes 0 0 ∷ get_or bytes 1 0 ∷ get_or bytes 2 0 ∷ drop 3 bytes
+first_three [] h = absurd (omega arith)
+first_three (a ∷ []) h = absurd (omega arith)
+first_three (a ∷ b ∷ []) h = absurd (omega arith)
+first_three (a ∷ b ∷ c ∷ bytes) h = refl
+
+-- ---- what the digits say
+
+digit_is : (b : ℕ) → 48 ≤ b → b ≤ 57 → digit_value b ≡ b - 48
+digit_is b low high = let e : digit_value b + 48 ≡ b = digit_value_digit b (low, high) in omega arith
+
+number_one : (b : ℕ) → 48 ≤ b → b ≤ 57 → number_of (b ∷ []) ≡ Some (b - 48)
+unfolding number_of
+number_one b low high =
+    let d : is_digit b 10 ≡ true = digit_yes b low high in
+    let v : 0 * 10 + digit_value b ≡ b - 48 = omega (arith, digit_is b low high) in
+    rw (d, v) refl
+
+number_two : (b : ℕ) → 48 ≤ b → b ≤ 57 → number_of (49 ∷ b ∷ []) ≡ Some (b - 48 + 10)
+unfolding number_of
+number_two b low high =
+    let d : is_digit b 10 ≡ true = digit_yes b low high in
+    let v : 1 * 10 + digit_value b ≡ b - 48 + 10 = omega (arith, digit_is b low high) in
+    rw (d, v) refl
+
+cell_one : (b : ℕ) → 48 ≤ b → b ≤ 57 → cell_number 16 (b ∷ []) ≡ Some (b - 48)
+unfolding cell_number
+cell_one b low high =
+    let below : ltb (b - 48) 16 ≡ true = lt-ltb (b - 48) 16 (omega arith) in
+    rw (number_one b low high, below) refl
+
+cell_two : (b : ℕ) → 48 ≤ b → b ≤ 53 → cell_number 16 (49 ∷ b ∷ []) ≡ Some (b - 48 + 10)
+unfolding cell_number
+cell_two b low high =
+    let below : ltb (b - 48 + 10) 16 ≡ true = lt-ltb (b - 48 + 10) 16 (omega arith) in
+    rw (number_two b low (omega arith), below) refl
+
+-- ---- plain fields
+
+pub plain_one : (bytes : List ℕ) → 3 ≤ length bytes → 48 ≤ get_or bytes 0 0 → get_or bytes 0 0 ≤ 57 → (eqb (get_or bytes 1 0) 32 || eqb (get_or bytes 1 0) 10) ≡ true
+    → (1 ≡ field_len bytes) × (cell_number 16 (take 1 bytes) ≡ Some (get_or bytes 0 0 - 48))
+plain_one [] long low high ends = absurd (omega arith)
+plain_one (a ∷ []) long low high ends = absurd (omega arith)
+plain_one (a ∷ b ∷ bytes) long low high ends = (sym (len_one a b bytes (digit_solid a low) ends), cell_one a low high)
+
+pub plain_two : (bytes : List ℕ) → 3 ≤ length bytes → get_or bytes 0 0 ≡ 49 → 48 ≤ get_or bytes 1 0 → get_or bytes 1 0 ≤ 53 → (eqb (get_or bytes 2 0) 32 || eqb (get_or bytes 2 0) 10) ≡ true
+    → (2 ≡ field_len bytes) × (cell_number 16 (take 2 bytes) ≡ Some (get_or bytes 1 0 - 48 + 10))
+plain_two [] long one low high ends = absurd (omega arith)
+plain_two (a ∷ []) long one low high ends = absurd (omega arith)
+plain_two (a ∷ b ∷ []) long one low high ends = absurd (omega arith)
+plain_two (a ∷ b ∷ c ∷ bytes) long one low high ends =
+    (sym (len_two a b c bytes (digit_solid a (omega arith)) (digit_solid b low) ends), ap (λ (x : ℕ). cell_number 16 (x ∷ b ∷ [])) one ∙ cell_two b low high)
+
+-- a field behind one space
+behind_space : (bytes : List ℕ) (n : ℕ) → field_len bytes ≡ suc n → Taken (32 ∷ bytes) (take (suc n) bytes) (drop (suc n) bytes)
+behind_space bytes n len =
+    let same = SameLeft-blank 32 bytes refl in
+    let t = Taken-field bytes n len in
+    record { fields = sym same.fields ∙ t.fields; lines = t.lines ∙ same.lines }
+
+kind_taken : (bytes : List ℕ) (kind n : ℕ) → 2 ≤ length bytes → get_or bytes 0 0 ≡ 32 → get_or bytes 1 0 ≡ kind → IsSolid kind → n ≡ field_len (drop 2 bytes)
+    → Taken bytes (kind ∷ take n (drop 2 bytes)) (drop n (drop 2 bytes))
+kind_taken [] kind n long space k solid len = absurd (omega arith)
+kind_taken (a ∷ []) kind n long space k solid len = absurd (omega arith)
+kind_taken (a ∷ b ∷ bytes) kind n long space k solid len =
+    let whole : field_len (kind ∷ bytes) ≡ suc n = field_len-cons kind bytes (solid_inside kind bytes solid) ∙ ap suc (sym len) in
+    rw (space, k) (behind_space (kind ∷ bytes) n whole)
+
+-- a cell in its usual spelling
+pub plain_stack : (bytes after : List ℕ) (m n : ℕ) → 2 ≤ length bytes → get_or bytes 0 0 ≡ 32 → get_or bytes 1 0 ≡ 115 → n ≡ field_len (drop 2 bytes) → cell_number 16 (take n (drop 2 bytes)) ≡ Some m → after ≡ drop n (drop 2 bytes)
+    → (field : List ℕ) × (cell_of field ≡ Some (Stack m)) × Taken bytes field after
+unfolding cell_of
+plain_stack bytes after m n long space kind len number rest =
+    (115 ∷ take n (drop 2 bytes), rw number refl, rw rest (kind_taken bytes 115 n long space kind (record { blank = refl; lf = refl; cr = refl }) len))
+
+pub plain_exact : (bytes after : List ℕ) (m n : ℕ) → 2 ≤ length bytes → get_or bytes 0 0 ≡ 32 → get_or bytes 1 0 ≡ 98 → n ≡ field_len (drop 2 bytes) → cell_number 16 (take n (drop 2 bytes)) ≡ Some m → after ≡ drop n (drop 2 bytes)
+    → (field : List ℕ) × (cell_of field ≡ Some (Exact m)) × Taken bytes field after
+unfolding cell_of
+plain_exact bytes after m n long space kind len number rest =
+    (98 ∷ take n (drop 2 bytes), rw number refl, rw rest (kind_taken bytes 98 n long space kind (record { blank = refl; lf = refl; cr = refl }) len))
+
+pub plain_shared : (bytes after : List ℕ) (m n : ℕ) → 2 ≤ length bytes → get_or bytes 0 0 ≡ 32 → get_or bytes 1 0 ≡ 103 → n ≡ field_len (drop 2 bytes) → cell_number 16 (take n (drop 2 bytes)) ≡ Some m → after ≡ drop n (drop 2 bytes)
+    → (field : List ℕ) × (cell_of field ≡ Some (Shared m)) × Taken bytes field after
+unfolding cell_of
+plain_shared bytes after m n long space kind len number rest =
+    (103 ∷ take n (drop 2 bytes), rw number refl, rw rest (kind_taken bytes 103 n long space kind (record { blank = refl; lf = refl; cr = refl }) len))
+
+pub digit_taken : (bytes : List ℕ) → 3 ≤ length bytes → get_or bytes 0 0 ≡ 32 → 48 ≤ get_or bytes 1 0 → (eqb (get_or bytes 2 0) 32 || eqb (get_or bytes 2 0) 10) ≡ true
+    → Taken bytes ((get_or bytes 1 0 - 48 + 48) ∷ []) (drop 2 bytes)
+digit_taken [] long space low ends = absurd (omega arith)
+digit_taken (a ∷ []) long space low ends = absurd (omega arith)
+digit_taken (a ∷ b ∷ []) long space low ends = absurd (omega arith)
+digit_taken (a ∷ b ∷ c ∷ bytes) long space low ends =
+    let same : b - 48 + 48 ≡ b = omega arith in
+    rw (same, space) (behind_space (b ∷ c ∷ bytes) 0 (len_one b c bytes (digit_solid b low) ends))
+
+-- ---- what a digit says
+
+pub digit_index : (d : ℕ) → d < 10 → an_index ((d + 48) ∷ []) ≡ Ok d
+digit_index d small =
+    let n : number_of ((d + 48) ∷ []) ≡ Some d = number_one (d + 48) (omega arith) (omega arith) ∙ ap (λ (x : ℕ). Some x) (omega arith) in
+    let most : leb d 65535 ≡ true = le-leb d 65535 (omega arith) in
+    rw (n, most) refl
+
+pub digit_turn : (threads d : ℕ) → d < 10 → d < threads → turns_of threads ((d + 48) ∷ []) ≡ Ok (d ∷ [])
+unfolding turns_of
+digit_turn threads d small lt =
+    let n : number_of ((d + 48) ∷ []) ≡ Some d = number_one (d + 48) (omega arith) (omega arith) ∙ ap (λ (x : ℕ). Some x) (omega arith) in
+    let star : eqb (d + 48) 42 ≡ false = ne_eqb (d + 48) 42 (λ (e : d + 48 ≡ 42). omega arith) in
+    let below : ltb d threads ≡ true = lt-ltb d threads lt in
+    rw (star, n, below) refl
+
+pub digit_turn_bad : (threads d : ℕ) → d < 10 → threads ≤ d → turns_of threads ((d + 48) ∷ []) ≡ Err Range
+unfolding turns_of
+digit_turn_bad threads d small le =
+    let n : number_of ((d + 48) ∷ []) ≡ Some d = number_one (d + 48) (omega arith) (omega arith) ∙ ap (λ (x : ℕ). Some x) (omega arith) in
+    let star : eqb (d + 48) 42 ≡ false = ne_eqb (d + 48) 42 (λ (e : d + 48 ≡ 42). omega arith) in
+    let above : ltb d threads ≡ false = le-ltb d threads le in
+    rw (star, n, above) refl
+
+-- what stands behind a cell's kind
+abbrev pub Behind : List ℕ → ℕ → List ℕ → Type 0
+Behind digits m after = (n : ℕ) × (n ≡ field_len digits) × (cell_number 16 (take n digits) ≡ Some m) × (after ≡ drop n digits)
+
+abbrev pub IsCellAt : List ℕ → Cell → List ℕ → Type 0
+IsCellAt bytes c after = (field : List ℕ) × (cell_of field ≡ Some c) × Taken bytes field after
+
+pub stack_at : (bytes digits after : List ℕ) (m : ℕ) → 2 ≤ length bytes → get_or bytes 0 0 ≡ 32 → get_or bytes 1 0 ≡ 115 → digits ≡ drop 2 bytes → Behind digits m after → IsCellAt bytes (Stack m) after
+stack_at bytes digits after m long space kind e b =
+    let d = subst (λ (xs : List ℕ). Behind xs m after) e b in plain_stack bytes after m d.0 long space kind d.1 d.2 d.3
+
+pub exact_at : (bytes digits after : List ℕ) (m : ℕ) → 2 ≤ length bytes → get_or bytes 0 0 ≡ 32 → get_or bytes 1 0 ≡ 98 → digits ≡ drop 2 bytes → Behind digits m after → IsCellAt bytes (Exact m) after
+exact_at bytes digits after m long space kind e b =
+    let d = subst (λ (xs : List ℕ). Behind xs m after) e b in plain_exact bytes after m d.0 long space kind d.1 d.2 d.3
+
+pub shared_at : (bytes digits after : List ℕ) (m : ℕ) → 2 ≤ length bytes → get_or bytes 0 0 ≡ 32 → get_or bytes 1 0 ≡ 103 → digits ≡ drop 2 bytes → Behind digits m after → IsCellAt bytes (Shared m) after
+shared_at bytes digits after m long space kind e b =
+    let d = subst (λ (xs : List ℕ). Behind xs m after) e b in plain_shared bytes after m d.0 long space kind d.1 d.2 d.3
+
+-- no field is left before an LF
+pub lf_ends : (bytes : List ℕ) → 1 ≤ length bytes → get_or bytes 0 0 ≡ 10 → length (fields_left bytes) ≡ 0
+unfolding fields_left fields_of
+lf_ends [] long lf = absurd (omega arith)
+lf_ends (b ∷ bytes) long lf = rw (lf, lines-lf bytes) refl
