@@ -1,10 +1,9 @@
 -- What a World keeps after the end of a thread.
-use Rattle.std.proofs.Common.{◌≡◌, ◌≢◌, ℕ, ◌+◌, ◌-◌, ◌*◌, ◌<◌, ◌≤◌, List, [], ◌∷◌, ◌++◌, length, take, drop, replicate, refl, sym, ◌∙◌, subst, ap, arith, get_or, set, length-set, inl, inr, Option, Some, None, option_map, true}
+use Rattle.std.proofs.Common.{◌≡◌, ◌≢◌, ℕ, ◌+◌, ◌-◌, ◌*◌, ◌<◌, ◌≤◌, List, ◌++◌, length, take, drop, replicate, refl, sym, ◌∙◌, subst, ap, arith, get_or, length-set, inl, inr, Option, option_map, true}
 use Rattle.std.proofs.lemmas.Bool.{cases_eq, cases_lt}
 use Rattle.std.proofs.lemmas.List.{length-append, length-drop, length-take-le, length-replicate, get_or-replicate, get_or-take, get_or-drop, get_or-append-add, get_or_append_left}
 use Rattle.std.specs.Prelude.{slice_index, slice_index_or}
 use Rattle.heap_terms.specs.declared.cells.Value.{Value}
-use Rattle.heap_terms.specs.declared.events.Event.{Event}
 use Rattle.heap_terms.specs.declared.events.Event.TheVariants.{Ended}
 use Rattle.heap_terms.specs.declared.pages.Next.TheVariants as nexts
 use Rattle.heap_terms.specs.declared.programs.Program.{Program}
@@ -14,7 +13,7 @@ use Rattle.heap_terms.specs.Objects.{Object}
 use Rattle.heap_terms.specs.Words.{word_of}
 use Rattle.lisp_heap.specs.Agreement.{Agrees, small_out, run_out}
 use Rattle.lisp_heap.specs.CellsView.{CellsView, spot, cleared, with_cleared}
-use Rattle.lisp_heap.specs.Parcels.{ParcelView, empty_parcel, place_of}
+use Rattle.lisp_heap.specs.Parcels.{ParcelView, empty_parcel}
 use Rattle.lisp_heap.specs.Standing.{CellsStand, Parts, Holds}
 use Rattle.lisp_heap.specs.State.{state_of, fresh_state, with_ended}
 use Rattle.lisp_heap.specs.declared.states.ThreadState.{ThreadState}
@@ -28,8 +27,13 @@ spliced_length : (words zeros : List ℕ) (from n : ℕ) → length zeros ≡ n 
     length (take from words ++ zeros ++ drop (from + n) words) ≡ length words
 spliced_length words zeros from n z h =
     let low : from ≤ length words = omega arith in
-    omega (arith, length-append (take from words ++ zeros) (drop (from + n) words), length-append (take from words) zeros,
-      length-take-le from words low, length-drop (from + n) words)
+    omega (
+      arith,
+      length-append (take from words ++ zeros) (drop (from + n) words),
+      length-append (take from words) zeros,
+      length-take-le from words low,
+      length-drop (from + n) words,
+    )
 
 front_length : (words zeros : List ℕ) (from n : ℕ) → length zeros ≡ n → from + n ≤ length words → length (take from words ++ zeros) ≡ from + n
 front_length words zeros from n z h =
@@ -43,7 +47,7 @@ spliced_before words zeros from n i z h lt =
     let first : i < length (take from words) = omega (arith, length-take-le from words low) in
     let both : i < length (take from words ++ zeros) = omega (arith, front_length words zeros from n z h) in
     get_or_append_left (take from words ++ zeros) (drop (from + n) words) 0 i both
-      ∙ get_or_append_left (take from words) zeros 0 i first ∙ get_or-take from words i 0 lt
+    ∙ get_or_append_left (take from words) zeros 0 i first ∙ get_or-take from words i 0 lt
 
 spliced_in : (words zeros : List ℕ) (from n i : ℕ) → length zeros ≡ n → from + n ≤ length words → i < n →
     get_or (take from words ++ zeros ++ drop (from + n) words) (from + i) 0 ≡ get_or zeros i 0
@@ -51,15 +55,15 @@ spliced_in words zeros from n i z h lt =
     let low : from ≤ length words = omega arith in
     let both : from + i < length (take from words ++ zeros) = omega (arith, front_length words zeros from n z h) in
     get_or_append_left (take from words ++ zeros) (drop (from + n) words) 0 (from + i) both
-      ∙ subst (λ (k : ℕ). get_or (take from words ++ zeros) (k + i) 0 ≡ get_or zeros i 0) (length-take-le from words low)
-        (get_or-append-add (take from words) zeros i 0)
+    ∙ subst (λ (k : ℕ). get_or (take from words ++ zeros) (k + i) 0 ≡ get_or zeros i 0) (length-take-le from words low)
+    (get_or-append-add (take from words) zeros i 0)
 
 spliced_after : (words zeros : List ℕ) (from n i : ℕ) → length zeros ≡ n → from + n ≤ length words →
     get_or (take from words ++ zeros ++ drop (from + n) words) (from + n + i) 0 ≡ get_or words (from + n + i) 0
 spliced_after words zeros from n i z h =
     subst (λ (k : ℕ). get_or (take from words ++ zeros ++ drop (from + n) words) (k + i) 0 ≡ get_or (drop (from + n) words) i 0) (front_length words zeros from n z h)
-      (get_or-append-add (take from words ++ zeros) (drop (from + n) words) i 0)
-      ∙ get_or-drop (from + n) words i 0
+    (get_or-append-add (take from words ++ zeros) (drop (from + n) words) i 0)
+    ∙ get_or-drop (from + n) words i 0
 
 -- ---- the cells of one thread cleared
 
@@ -73,30 +77,30 @@ cleared_own words t i h lt =
 cleared_other : (words : List ℕ) (t u i : ℕ) → 16 * t + 16 ≤ length words → i < 16 → u ≢ t →
     slice_index (cleared words t) (spot u i) ≡ slice_index words (spot u i)
 cleared_other words t u i h lt n = elim (cases_lt u t) [
-      inl l ↦ (
-        let before : spot u i < 16 * t = omega arith in
-        spliced_before words (replicate 16 0) (16 * t) 16 (spot u i) (length-replicate {A = ℕ} 16 0) h before)
-    | inr r ↦ elim (cases_eq u t) [
-          inl e ↦ absurd (n e)
-        | inr apart ↦ (
-            let there : 16 * t + 16 + (spot u i - (16 * t + 16)) ≡ spot u i = omega arith in
-            subst (λ (k : ℕ). slice_index (cleared words t) k ≡ slice_index words k) there
-              (spliced_after words (replicate 16 0) (16 * t) 16 (spot u i - (16 * t + 16)) (length-replicate {A = ℕ} 16 0) h))
-        ]
-    ]
+  | inl l ↦ (
+      let before : spot u i < 16 * t = omega arith in
+      spliced_before words (replicate 16 0) (16 * t) 16 (spot u i) (length-replicate {A = ℕ} 16 0) h before)
+  | inr r ↦ elim (cases_eq u t) [
+    | inl e ↦ absurd (n e)
+    | inr apart ↦ (
+        let there : 16 * t + 16 + (spot u i - (16 * t + 16)) ≡ spot u i = omega arith in
+        subst (λ (k : ℕ). slice_index (cleared words t) k ≡ slice_index words k) there
+        (spliced_after words (replicate 16 0) (16 * t) 16 (spot u i - (16 * t + 16)) (length-replicate {A = ℕ} 16 0) h))
+  ]
+]
 
 -- one list of cells, where thread t's are zeros from now on
 cleared_stands : (objects : List (Option Object)) (words : List ℕ) (old new : List Value) (t u i : ℕ) → 16 * t + 16 ≤ length words → i < 16 →
     (u ≡ t → new ≡ replicate 16 zero_value) → (u ≢ t → new ≡ old) → slice_index words (spot u i) ≡ word_of objects (slice_index_or old i zero_value) →
     slice_index (cleared words t) (spot u i) ≡ word_of objects (slice_index_or new i zero_value)
 cleared_stands objects words old new t u i h lt own other before = elim (cases_eq u t) [
-      inl e ↦ (
-        subst (λ (k : ℕ). slice_index (cleared words t) (spot k i) ≡ 0) (sym e) (cleared_own words t i h lt)
-          ∙ ap (word_of objects) (sym (get_or-replicate 16 i zero_value zero_value lt))
-          ∙ ap (λ (xs : List Value). word_of objects (get_or xs i zero_value)) (sym (own e)))
-    | inr n ↦ (
-        cleared_other words t u i h lt n ∙ before ∙ ap (λ (xs : List Value). word_of objects (get_or xs i zero_value)) (sym (other n)))
-    ]
+  | inl e ↦ (
+      subst (λ (k : ℕ). slice_index (cleared words t) (spot k i) ≡ 0) (sym e) (cleared_own words t i h lt)
+      ∙ ap (word_of objects) (sym (get_or-replicate 16 i zero_value zero_value lt))
+      ∙ ap (λ (xs : List Value). word_of objects (get_or xs i zero_value)) (sym (own e)))
+  | inr n ↦ (
+      cleared_other words t u i h lt n ∙ before ∙ ap (λ (xs : List Value). word_of objects (get_or xs i zero_value)) (sym (other n)))
+]
 
 own_thread : (a : NamedHeap) (t u : ℕ) (th : Thread) → t < length a.threads → u ≡ t → thread_at (with_thread a t th) u ≡ th
 own_thread a t u th h e = subst (λ (k : ℕ). thread_at (with_thread a t th) k ≡ th) (sym e) (thread_at-same a t th h)
@@ -112,14 +116,15 @@ CellsStand-ended a t v ht s =
       exact_length = cleared_length v.exact t exact_room ∙ s.exact_length ∙ ap (λ n. 16 * n) (sym (length-set a.threads t th));
       shared_length = s.shared_length;
       stack = λ u i hu hi. (
-        let lu : u < length a.threads = subst (λ (n : ℕ). u < n) (length-set a.threads t th) hu in
-        cleared_stands a.objects v.stack (thread_at a u).stack (thread_at (with_thread a t th) u).stack t u i stack_room hi
+          let lu : u < length a.threads = subst (λ (n : ℕ). u < n) (length-set a.threads t th) hu in
+          cleared_stands a.objects v.stack (thread_at a u).stack (thread_at (with_thread a t th) u).stack t u i stack_room hi
           (λ e. ap (λ (x : Thread). x.stack) (own_thread a t u th ht e)) (λ n. ap (λ (x : Thread). x.stack) (thread_at-other a t u th n)) (s.stack u i lu hi));
       exact = λ u i hu hi. (
-        let lu : u < length a.threads = subst (λ (n : ℕ). u < n) (length-set a.threads t th) hu in
-        cleared_stands a.objects v.exact (thread_at a u).exact (thread_at (with_thread a t th) u).exact t u i exact_room hi
+          let lu : u < length a.threads = subst (λ (n : ℕ). u < n) (length-set a.threads t th) hu in
+          cleared_stands a.objects v.exact (thread_at a u).exact (thread_at (with_thread a t th) u).exact t u i exact_room hi
           (λ e. ap (λ (x : Thread). x.exact) (own_thread a t u th ht e)) (λ n. ap (λ (x : Thread). x.exact) (thread_at-other a t u th n)) (s.exact u i lu hi));
-      shared = s.shared }
+      shared = s.shared;
+    }
 
 -- ---- all that a World keeps
 
@@ -135,7 +140,8 @@ Holds-ended a v t ht holds =
       labels = LabelsStand-same a (with_thread a t th) v.labels refl refl holds.labels;
       cells = CellsStand-ended a t v.cells ht holds.cells;
       states = states_set a v.states t th state holds.states same;
-      commits = holds.commits }
+      commits = holds.commits;
+    }
 
 pub after_end_holds : (p : Program) (a : NamedHeap) (v : Parts) (t : ℕ) → t < length a.threads → Holds a v →
     Holds (after p a (Ended t)) (record v { cells = with_cleared v.cells t; states = with_ended v.states t })
@@ -161,4 +167,5 @@ end_empty p a t ht =
       cons = ap (λ (x : Thread). option_map (small_out a.pages) x.cons_page) own;
       boxed = ap (λ (x : Thread). option_map (small_out a.pages) x.boxed_page) own;
       unboxed = ap (λ (x : Thread). option_map (small_out a.pages) x.unboxed_page) own;
-      run = ap (λ (x : Thread). option_map (run_out a.pages) x.open_run) own }
+      run = ap (λ (x : Thread). option_map (run_out a.pages) x.open_run) own;
+    }

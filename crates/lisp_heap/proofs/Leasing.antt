@@ -1,11 +1,9 @@
 -- What is built in the regions of a parcel.
-use Rattle.std.proofs.Common.{◌≡◌, ℕ, ◌+◌, ◌<◌, List, [], ◌∷◌, length, refl, sym, ◌∙◌, subst, ap, arith, Option, Some, None, option_map}
+use Rattle.std.proofs.Common.{◌≡◌, ℕ, ◌+◌, List, [], length, sym, ◌∙◌, subst, ap, Option, Some, None, option_map}
 use Rattle.std.specs.Prelude.{IsSomeAnd}
 use Rattle.heap_terms.specs.declared.kinds.Kind.TheVariants as kinds
-use Rattle.heap_terms.specs.Fresh.{fresh_contents}
-use Rattle.heap_terms.specs.Words.{spelling}
 use Rattle.alloc_region.specs.View as regions
-use Rattle.lisp_heap.specs.Leases.{region_view, IsLease, IsSmallLease}
+use Rattle.lisp_heap.specs.Leases.{region_view}
 use Rattle.lisp_heap.specs.ParcelSound.{IsParcel, parcel_view}
 use Rattle.lisp_heap.specs.Parcels.{ParcelView, RegionView, HasBuilt, cons_accepted, with_accepted}
 use Rattle.lisp_heap.specs.declared.parcels.Lease.{Lease}
@@ -21,7 +19,7 @@ built_lease (Some k) l m e h = let same : k ≡ l = cc in ap (λ (x : Lease). x.
 pub no_region : (s : Inside) (q : ParcelView) → parcel_view s ≡ q → HasBuilt q kinds.Cons 2 0 → s.cons ≡ None → ⊥
 no_region s q e h none =
     subst (λ (o : Option Lease). IsSomeAnd (option_map region_view o) (λ r. r.built ≡ Some (record { kind = kinds.Cons; n = 2; seed = 0 }))) none
-      (subst (λ (x : ParcelView). HasBuilt x kinds.Cons 2 0) (sym e) h)
+    (subst (λ (x : ParcelView). HasBuilt x kinds.Cons 2 0) (sym e) h)
 
 -- a cons that is built takes two words
 pub two_built : (s : Inside) (q : ParcelView) (l : Lease) → parcel_view s ≡ q → HasBuilt q kinds.Cons 2 0 → IsParcel s → s.cons ≡ Some l →
@@ -37,9 +35,9 @@ pub accepted : (s : Inside) (l : Lease) (r : regions.RegionView) → s.cons ≡ 
     parcel_view (record s { cons = Some (record { region = r; built = None }) }) ≡ with_accepted (parcel_view s)
 accepted s l r at two is =
     let first : Some (region_view (record { region = r; built = None })) ≡ Some (record (region_view l) { next = l.region.next + length l.region.built; built = None }) =
-      ap (λ (x : regions.RegionView). Some (region_view (record { region = x; built = None }))) is in
+    ap (λ (x : regions.RegionView). Some (region_view (record { region = x; built = None }))) is in
     let second : Some (record (region_view l) { next = l.region.next + length l.region.built; built = None }) ≡ option_map cons_accepted (option_map region_view (Some l)) =
-      ap (λ (n : ℕ). Some (record (region_view l) { next = l.region.next + n; built = None })) two in
+    ap (λ (n : ℕ). Some (record (region_view l) { next = l.region.next + n; built = None })) two in
     let third : option_map cons_accepted (option_map region_view (Some l)) ≡ option_map cons_accepted (option_map region_view s.cons) =
-      ap (λ (o : Option Lease). option_map cons_accepted (option_map region_view o)) (sym at) in
+    ap (λ (o : Option Lease). option_map cons_accepted (option_map region_view o)) (sym at) in
     ap (λ (x : Option RegionView). record (parcel_view s) { cons = x }) (first ∙ second ∙ third)

@@ -1,10 +1,10 @@
 -- What is known of the pages and the threads of a sound World.
-use Rattle.std.proofs.Common.{◌≡◌, ℕ, ◌+◌, ◌<◌, ◌≤◌, List, length, refl, sym, ◌∙◌, subst, ap, arith, Option, Some, None, get_or, inl, inr}
+use Rattle.std.proofs.Common.{◌≡◌, ℕ, ◌<◌, ◌≤◌, List, length, sym, ◌∙◌, subst, ap, arith, Some, get_or}
 use Rattle.std.specs.Option.{ForSome}
 use Rattle.heap_terms.specs.declared.kinds.PageType.{PageType}
 use Rattle.heap_terms.specs.declared.kinds.PageType.TheVariants as types
 use Rattle.heap_terms.specs.declared.pages.Entry.{Entry}
-use Rattle.heap_terms.specs.Heap.{NamedHeap, Thread, thread_at, ended_thread, fresh_thread, open_page, entry_at, fill_of}
+use Rattle.heap_terms.specs.Heap.{NamedHeap, thread_at, open_page, entry_at, fill_of}
 use Rattle.heap_terms.specs.WellFormed.{IsOpenRun}
 use Rattle.heap_terms.proofs.Threading.{open_run_used}
 use Rattle.lisp_heap.specs.Sound.{IsSound, view_of}
@@ -33,15 +33,15 @@ pub pages_in : (s : Inside) (w : View) → IsSound s → view_of s ≡ w → (t 
     ForSome (state_page state ty) (λ page. page < length (heap_of w).pages)
 pages_in s w h e t state ty is =
     subst (λ (v : View). state ≡ state_of (thread_at (heap_of v) t) → ForSome (state_page state ty) (λ page. page < length (heap_of v).pages)) e
-      (λ known page at. open_page_below s.program (heap s) t ty (well_formed s h) page (state_open (heap s) t state ty page known at)) is
+    (λ known page at. open_page_below s.program (heap s) t ty (well_formed s h) page (state_open (heap s) t state ty page known at)) is
 
 pub run_in : (s : Inside) (w : View) → IsSound s → view_of s ≡ w → (t : ℕ) (state : ThreadState) → state ≡ state_of (thread_at (heap_of w) t) →
     ForSome state.open_run (λ page. page < length (heap_of w).pages)
 run_in s w h e t state is =
     subst (λ (v : View). state ≡ state_of (thread_at (heap_of v) t) → ForSome state.open_run (λ page. page < length (heap_of v).pages)) e
-      (λ known page at. (
-        let run : IsOpenRun (heap s).pages page = open_run_used s.program (heap s) t page (well_formed s h) (ap (λ (x : ThreadState). x.open_run) (sym known) ∙ at) in
-        omega (arith, run.inside, run.long))) is
+    (λ known page at. (
+    let run : IsOpenRun (heap s).pages page = open_run_used s.program (heap s) t page (well_formed s h) (ap (λ (x : ThreadState). x.open_run) (sym known) ∙ at) in
+    omega (arith, run.inside, run.long))) is
 
 -- a page is filled at most to its end
 pub entry_most : (s : Inside) → IsSound s → (page : ℕ) (entry : Entry) → entry ≡ entry_at s.pages page → fill_of entry ≤ 512

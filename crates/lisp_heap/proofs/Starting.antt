@@ -1,14 +1,11 @@
 -- What a World keeps before its first event stands for the heap at the start.
-use Rattle.std.proofs.Common.{◌≡◌, ℕ, ◌+◌, ◌*◌, ◌<◌, ◌≤◌, List, [], ◌∷◌, length, map, replicate, refl, sym, ◌∙◌, subst, ap, arith, get_or, Option, Some, None}
+use Rattle.std.proofs.Common.{◌≡◌, ℕ, ◌*◌, ◌<◌, List, [], ◌∷◌, length, map, replicate, refl, sym, ◌∙◌, subst, ap, arith, get_or, Option}
 use Rattle.std.proofs.lemmas.List.{length-replicate, length-map, get_or-replicate}
-use Rattle.std.specs.Prelude.{slice_index, slice_index_or}
-use Rattle.heap_terms.specs.declared.cells.Value.{Value}
 use Rattle.heap_terms.specs.declared.commands.Command.{Command}
 use Rattle.heap_terms.specs.declared.events.Event.{Event}
-use Rattle.heap_terms.specs.declared.pages.Entry.{Entry}
 use Rattle.heap_terms.specs.declared.pages.Entry.TheVariants.{Free}
 use Rattle.heap_terms.specs.declared.programs.Program.{Program}
-use Rattle.heap_terms.specs.Heap.{NamedHeap, Thread, start, thread_at, fresh_thread, zero_value}
+use Rattle.heap_terms.specs.Heap.{Thread, start, fresh_thread, zero_value}
 use Rattle.heap_terms.specs.Histories.{Lawful, replay}
 use Rattle.heap_terms.specs.Layout.{page_words}
 use Rattle.heap_terms.specs.Objects.{Object}
@@ -31,13 +28,15 @@ unfolding start
 start_words p = record {
   long = length-replicate (page_words * p.pages) 0 ∙ ap (λ (n : ℕ). page_words * n) (sym (length-replicate p.pages Free));
   spelled = λ name. tt;
-  fillers = no_fillers p (start p) (replicate (page_words * p.pages) 0) (start-well_formed p) }
+  fillers = no_fillers p (start p) (replicate (page_words * p.pages) 0) (start-well_formed p);
+}
 
 start_labels : (p : Program) → LabelsStand (start p) (replicate (256 * p.pages) 0)
 unfolding start
 start_labels p = record {
   long = length-replicate (256 * p.pages) 0 ∙ ap (λ (n : ℕ). 256 * n) (sym (length-replicate p.pages Free));
-  named = λ name. tt }
+  named = λ name. tt;
+}
 
 -- the cells of all threads, each the fixnum 0
 abbrev pub start_cells : ℕ → CellsView
@@ -63,16 +62,17 @@ start_stands p =
       exact_length = length-replicate (16 * n) 0 ∙ ap (λ (k : ℕ). 16 * k) (sym (start_count p));
       shared_length = length-replicate {A = ℕ} 16 0;
       stack = λ t i ht hi. (
-        let lt : t < length p.threads = subst (λ (k : ℕ). t < k) (start_count p) ht in
-        let inside : spot t i < 16 * n = omega arith in
-        get_or-replicate (16 * n) (spot t i) 0 0 inside ∙ zero_cell (start p).objects i hi
+          let lt : t < length p.threads = subst (λ (k : ℕ). t < k) (start_count p) ht in
+          let inside : spot t i < 16 * n = omega arith in
+          get_or-replicate (16 * n) (spot t i) 0 0 inside ∙ zero_cell (start p).objects i hi
           ∙ ap (λ (x : Thread). word_of (start p).objects (get_or x.stack i zero_value)) (sym (start_thread_is p t lt)));
       exact = λ t i ht hi. (
-        let lt : t < length p.threads = subst (λ (k : ℕ). t < k) (start_count p) ht in
-        let inside : spot t i < 16 * n = omega arith in
-        get_or-replicate (16 * n) (spot t i) 0 0 inside ∙ zero_cell (start p).objects i hi
+          let lt : t < length p.threads = subst (λ (k : ℕ). t < k) (start_count p) ht in
+          let inside : spot t i < 16 * n = omega arith in
+          get_or-replicate (16 * n) (spot t i) 0 0 inside ∙ zero_cell (start p).objects i hi
           ∙ ap (λ (x : Thread). word_of (start p).objects (get_or x.exact i zero_value)) (sym (start_thread_is p t lt)));
-      shared = λ i hi. get_or-replicate 16 i 0 0 hi ∙ shared_cell p i hi }
+      shared = λ i hi. get_or-replicate 16 i 0 0 hi ∙ shared_cell p i hi;
+    }
 
 start_states : (p : Program) → replicate (length p.threads) fresh_state ≡ map state_of (start p).threads
 unfolding start
@@ -99,11 +99,13 @@ holds_start p v words pages labels cells states commits = record {
   labels = subst (λ (xs : List ℕ). LabelsStand (start p) xs) (sym labels) (start_labels p);
   cells = subst (λ (k : CellsView). CellsStand (start p) k) (sym cells) (start_stands p);
   states = states ∙ start_states p;
-  commits = commits ∙ start_commits p }
+  commits = commits ∙ start_commits p;
+}
 
 -- the fields of a World without a history
 pub starts_sound : (s : Inside) → IsValid s.program → s.history.items ≡ [] → Holds (start s.program) (parts_of s) → IsSound s
 starts_sound s valid empty holds = record {
   valid = valid;
   lawful = subst (λ (es : List Event). Lawful s.program es) (sym empty) tt;
-  holds = subst (λ (es : List Event). Holds (replay s.program es) (parts_of s)) (sym empty) holds }
+  holds = subst (λ (es : List Event). Holds (replay s.program es) (parts_of s)) (sym empty) holds;
+}

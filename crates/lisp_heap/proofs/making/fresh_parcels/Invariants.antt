@@ -6,4 +6,5 @@ abbrev pub invariant-loop-t : goal.invariant-loop-t
 invariant-loop-t l = record {
   fresh : AreFresh l.parcels.items l.t;
   len : vec_len l.parcels ≡ l.t;
-  room : l.threads ≤ vec_capacity l.parcels }
+  room : l.threads ≤ vec_capacity l.parcels;
+}

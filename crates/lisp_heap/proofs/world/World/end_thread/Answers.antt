@@ -1,7 +1,6 @@
 -- The end of a thread is one event.
-use Rattle.std.proofs.Common.{◌≡◌, ◌≢◌, ℕ, ◌<◌, ◌++◌, ◌∷◌, [], length, arith, subst, ap, ◌∙◌, sym, refl}
+use Rattle.std.proofs.Common.{◌≡◌, ℕ, ◌<◌, length, arith, subst, sym, refl}
 use Rattle.heap_terms.specs.declared.events.Event.TheVariants.{Ended}
-use Rattle.heap_terms.specs.declared.pages.Next.{Next}
 use Rattle.heap_terms.specs.declared.pages.Next.TheVariants as nexts
 use Rattle.heap_terms.specs.Heap.{NamedHeap}
 use Rattle.heap_terms.specs.Histories.{after, next}
@@ -9,7 +8,7 @@ use Rattle.lisp_heap.specs.Agreement.{Agrees}
 use Rattle.lisp_heap.specs.Parcels.{empty_parcel}
 use Rattle.lisp_heap.specs.Sound.{view_of, parts_of, IsSound}
 use Rattle.lisp_heap.specs.Standing.{Holds}
-use Rattle.lisp_heap.specs.View.{View, heap_of, next_of}
+use Rattle.lisp_heap.specs.View.{View, next_of}
 use Rattle.lisp_heap.specs.declared.world.World.TheInside.{Inside}
 use Rattle.lisp_heap.proofs.Ending.{after_end_holds, end_next, end_others, end_empty}
 use Rattle.lisp_heap.proofs.Soundness.{heap, well_formed, states_length, cells_room}
@@ -39,36 +38,74 @@ pub invariant_of-self-2 : goal.invariant_of-self-2
 invariant_of-self-2 c =
     let s = c.self.inside in
     let lt = thread_in s c.args.self.now c.self.view_is c.args.t c.requires.thread in
-    let now : Inside = record { program = s.program; space = s.space; pages = s.pages; labels = s.labels; cells = c.clear.new.self;
-      states = c.end_state.new.states; commits = s.commits; history = c.push.new.self } in
+    let now : Inside = record {
+      program = s.program;
+      space = s.space;
+      pages = s.pages;
+      labels = s.labels;
+      cells = c.clear.new.self;
+      states = c.end_state.new.states;
+      commits = s.commits;
+      history = c.push.new.self;
+    } in
     let held : Holds (after s.program (heap s) (Ended c.args.t)) (record {
-        words = s.space; pages = s.pages; labels = s.labels; cells = c.clear.new.self; states = c.end_state.new.states; commits = s.commits }) =
-      rw (c.clear.ensures, c.end_state.ensures)
-        (after_end_holds s.program (heap s) (parts_of s) c.args.t (thread_there s c.self.invariant c.args.t lt) c.self.invariant.holds) in
+      words = s.space;
+      pages = s.pages;
+      labels = s.labels;
+      cells = c.clear.new.self;
+      states = c.end_state.new.states;
+      commits = s.commits;
+    }) =
+    rw (c.clear.ensures, c.end_state.ensures)
+    (after_end_holds s.program (heap s) (parts_of s) c.args.t (thread_there s c.self.invariant c.args.t lt) c.self.invariant.holds) in
     sound_after s now (Ended c.args.t) c.self.invariant refl c.in_ok-push.ensures.items
-      (end_next s.program (heap s) c.args.t (ends_here s c.args.self.now c.args.t c.self.view_is c.requires.ends)) held
+    (end_next s.program (heap s) c.args.t (ends_here s c.args.self.now c.args.t c.self.view_is c.requires.ends)) held
 
 pub returns-clause-ok : goal.returns-clause-ok
 returns-clause-ok c =
     let s = c.self.inside in
-    let now : Inside = record { program = s.program; space = s.space; pages = s.pages; labels = s.labels; cells = c.clear.new.self;
-      states = c.end_state.new.states; commits = s.commits; history = c.push.new.self } in
+    let now : Inside = record {
+      program = s.program;
+      space = s.space;
+      pages = s.pages;
+      labels = s.labels;
+      cells = c.clear.new.self;
+      states = c.end_state.new.states;
+      commits = s.commits;
+      history = c.push.new.self;
+    } in
     happens_after s now c.args.self.now c.args.t (Ended c.args.t) c.self.view_is refl c.in_ok-push.ensures.items refl
-      (end_next s.program (heap s) c.args.t (ends_here s c.args.self.now c.args.t c.self.view_is c.requires.ends))
+    (end_next s.program (heap s) c.args.t (ends_here s c.args.self.now c.args.t c.self.view_is c.requires.ends))
 
 pub returns-clause-agrees : goal.returns-clause-agrees
 returns-clause-agrees c =
     let s = c.self.inside in
     let lt = thread_in s c.args.self.now c.self.view_is c.args.t c.requires.thread in
-    let now : Inside = record { program = s.program; space = s.space; pages = s.pages; labels = s.labels; cells = c.clear.new.self;
-      states = c.end_state.new.states; commits = s.commits; history = c.push.new.self } in
+    let now : Inside = record {
+      program = s.program;
+      space = s.space;
+      pages = s.pages;
+      labels = s.labels;
+      cells = c.clear.new.self;
+      states = c.end_state.new.states;
+      commits = s.commits;
+      history = c.push.new.self;
+    } in
     subst (λ (a : NamedHeap). Agrees a (empty_parcel c.args.t)) (sym (heap_after s now (Ended c.args.t) refl c.in_ok-push.ensures.items))
-      (end_empty s.program (heap s) c.args.t (thread_there s c.self.invariant c.args.t lt))
+    (end_empty s.program (heap s) c.args.t (thread_there s c.self.invariant c.args.t lt))
 
 pub returns-clause-others : goal.returns-clause-others
 returns-clause-others c = λ q apart. (
     let s = c.self.inside in
-    let now : Inside = record { program = s.program; space = s.space; pages = s.pages; labels = s.labels; cells = c.clear.new.self;
-      states = c.end_state.new.states; commits = s.commits; history = c.push.new.self } in
+    let now : Inside = record {
+      program = s.program;
+      space = s.space;
+      pages = s.pages;
+      labels = s.labels;
+      cells = c.clear.new.self;
+      states = c.end_state.new.states;
+      commits = s.commits;
+      history = c.push.new.self;
+    } in
     agrees_after s now c.args.self.now (Ended c.args.t) q q c.self.view_is refl c.in_ok-push.ensures.items
-      (end_others s.program (heap s) c.args.t q apart))
+    (end_others s.program (heap s) c.args.t q apart))

@@ -1,5 +1,5 @@
 -- The World at the start.
-use Rattle.std.proofs.Common.{◌≡◌, ℕ, length, ap, ◌∙◌, refl, replicate}
+use Rattle.std.proofs.Common.{ℕ, ap, ◌∙◌, refl, replicate}
 use Rattle.lisp_heap.specs.Sound.{parts_of}
 use Rattle.lisp_heap.specs.State.{fresh_state}
 use Rattle.lisp_heap.specs.declared.world.World.TheInside.{Inside}
@@ -8,9 +8,17 @@ use Rattle.lisp_heap.proofs.world.World.new.Goals as goal
 
 pub invariant_of-world : goal.invariant_of-world
 invariant_of-world c =
-    let s : Inside = record { program = c.args.program; space = c.in_ok-space.space; pages = c.in_ok-pages.pages; labels = c.in_ok-labels.labels;
-      cells = c.in_ok-cells.cells; states = c.in_ok-states.states; commits = 0; history = c.new-4.result } in
+    let s : Inside = record {
+      program = c.args.program;
+      space = c.in_ok-space.space;
+      pages = c.in_ok-pages.pages;
+      labels = c.in_ok-labels.labels;
+      cells = c.in_ok-cells.cells;
+      states = c.in_ok-states.states;
+      commits = 0;
+      history = c.new-4.result;
+    } in
     starts_sound s c.requires c.new-4.ensures.items
-      (holds_start c.args.program (parts_of s) c.in_ok-space.ensures c.in_ok-pages.ensures c.in_ok-labels.ensures
-        (c.in_ok-cells.ensures ∙ ap start_cells c.len-threads.ensures)
-        (c.in_ok-states.ensures ∙ ap (λ (n : ℕ). replicate n fresh_state) c.len-threads.ensures) refl)
+    (holds_start c.args.program (parts_of s) c.in_ok-space.ensures c.in_ok-pages.ensures c.in_ok-labels.ensures
+    (c.in_ok-cells.ensures ∙ ap start_cells c.len-threads.ensures)
+    (c.in_ok-states.ensures ∙ ap (λ (n : ℕ). replicate n fresh_state) c.len-threads.ensures) refl)
