@@ -1,10 +1,9 @@
 -- What a World keeps after the end of a thread.
-use Rattle.std.proofs.Common.{◌≡◌, ◌≢◌, ℕ, ◌+◌, ◌-◌, ◌*◌, ◌<◌, ◌≤◌, List, [], ◌∷◌, ◌++◌, length, take, drop, replicate, refl, sym, ◌∙◌, subst, ap, arith, get_or, set, length-set, inl, inr, Option, Some, None, option_map, true}
+use Rattle.std.proofs.Common.{◌≡◌, ◌≢◌, ℕ, ◌+◌, ◌-◌, ◌*◌, ◌<◌, ◌≤◌, List, ◌++◌, length, take, drop, replicate, refl, sym, ◌∙◌, subst, ap, arith, get_or, length-set, inl, inr, Option, option_map, true}
 use Rattle.std.proofs.lemmas.Bool.{cases_eq, cases_lt}
 use Rattle.std.proofs.lemmas.List.{length-append, length-drop, length-take-le, length-replicate, get_or-replicate, get_or-take, get_or-drop, get_or-append-add, get_or_append_left}
 use Rattle.std.specs.Prelude.{slice_index, slice_index_or}
 use Rattle.heap_terms.specs.declared.cells.Value.{Value}
-use Rattle.heap_terms.specs.declared.events.Event.{Event}
 use Rattle.heap_terms.specs.declared.events.Event.TheVariants.{Ended}
 use Rattle.heap_terms.specs.declared.pages.Next.TheVariants as nexts
 use Rattle.heap_terms.specs.declared.programs.Program.{Program}
@@ -14,7 +13,7 @@ use Rattle.heap_terms.specs.Objects.{Object}
 use Rattle.heap_terms.specs.Words.{word_of}
 use Rattle.lisp_heap.specs.Agreement.{Agrees, small_out, run_out}
 use Rattle.lisp_heap.specs.CellsView.{CellsView, spot, cleared, with_cleared}
-use Rattle.lisp_heap.specs.Parcels.{ParcelView, empty_parcel, place_of}
+use Rattle.lisp_heap.specs.Parcels.{ParcelView, empty_parcel}
 use Rattle.lisp_heap.specs.Standing.{CellsStand, Parts, Holds}
 use Rattle.lisp_heap.specs.State.{state_of, fresh_state, with_ended}
 use Rattle.lisp_heap.specs.declared.states.ThreadState.{ThreadState}

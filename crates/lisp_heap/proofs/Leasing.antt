@@ -1,11 +1,9 @@
 -- What is built in the regions of a parcel.
-use Rattle.std.proofs.Common.{◌≡◌, ℕ, ◌+◌, ◌<◌, List, [], ◌∷◌, length, refl, sym, ◌∙◌, subst, ap, arith, Option, Some, None, option_map}
+use Rattle.std.proofs.Common.{◌≡◌, ℕ, ◌+◌, List, [], length, sym, ◌∙◌, subst, ap, Option, Some, None, option_map}
 use Rattle.std.specs.Prelude.{IsSomeAnd}
 use Rattle.heap_terms.specs.declared.kinds.Kind.TheVariants as kinds
-use Rattle.heap_terms.specs.Fresh.{fresh_contents}
-use Rattle.heap_terms.specs.Words.{spelling}
 use Rattle.alloc_region.specs.View as regions
-use Rattle.lisp_heap.specs.Leases.{region_view, IsLease, IsSmallLease}
+use Rattle.lisp_heap.specs.Leases.{region_view}
 use Rattle.lisp_heap.specs.ParcelSound.{IsParcel, parcel_view}
 use Rattle.lisp_heap.specs.Parcels.{ParcelView, RegionView, HasBuilt, cons_accepted, with_accepted}
 use Rattle.lisp_heap.specs.declared.parcels.Lease.{Lease}

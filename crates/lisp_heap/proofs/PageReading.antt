@@ -1,10 +1,10 @@
 -- What is known of the pages and the threads of a sound World.
-use Rattle.std.proofs.Common.{◌≡◌, ℕ, ◌+◌, ◌<◌, ◌≤◌, List, length, refl, sym, ◌∙◌, subst, ap, arith, Option, Some, None, get_or, inl, inr}
+use Rattle.std.proofs.Common.{◌≡◌, ℕ, ◌<◌, ◌≤◌, List, length, sym, ◌∙◌, subst, ap, arith, Some, get_or}
 use Rattle.std.specs.Option.{ForSome}
 use Rattle.heap_terms.specs.declared.kinds.PageType.{PageType}
 use Rattle.heap_terms.specs.declared.kinds.PageType.TheVariants as types
 use Rattle.heap_terms.specs.declared.pages.Entry.{Entry}
-use Rattle.heap_terms.specs.Heap.{NamedHeap, Thread, thread_at, ended_thread, fresh_thread, open_page, entry_at, fill_of}
+use Rattle.heap_terms.specs.Heap.{NamedHeap, thread_at, open_page, entry_at, fill_of}
 use Rattle.heap_terms.specs.WellFormed.{IsOpenRun}
 use Rattle.heap_terms.proofs.Threading.{open_run_used}
 use Rattle.lisp_heap.specs.Sound.{IsSound, view_of}

@@ -1,14 +1,11 @@
 -- What a World keeps before its first event stands for the heap at the start.
-use Rattle.std.proofs.Common.{◌≡◌, ℕ, ◌+◌, ◌*◌, ◌<◌, ◌≤◌, List, [], ◌∷◌, length, map, replicate, refl, sym, ◌∙◌, subst, ap, arith, get_or, Option, Some, None}
+use Rattle.std.proofs.Common.{◌≡◌, ℕ, ◌*◌, ◌<◌, List, [], ◌∷◌, length, map, replicate, refl, sym, ◌∙◌, subst, ap, arith, get_or, Option}
 use Rattle.std.proofs.lemmas.List.{length-replicate, length-map, get_or-replicate}
-use Rattle.std.specs.Prelude.{slice_index, slice_index_or}
-use Rattle.heap_terms.specs.declared.cells.Value.{Value}
 use Rattle.heap_terms.specs.declared.commands.Command.{Command}
 use Rattle.heap_terms.specs.declared.events.Event.{Event}
-use Rattle.heap_terms.specs.declared.pages.Entry.{Entry}
 use Rattle.heap_terms.specs.declared.pages.Entry.TheVariants.{Free}
 use Rattle.heap_terms.specs.declared.programs.Program.{Program}
-use Rattle.heap_terms.specs.Heap.{NamedHeap, Thread, start, thread_at, fresh_thread, zero_value}
+use Rattle.heap_terms.specs.Heap.{Thread, start, fresh_thread, zero_value}
 use Rattle.heap_terms.specs.Histories.{Lawful, replay}
 use Rattle.heap_terms.specs.Layout.{page_words}
 use Rattle.heap_terms.specs.Objects.{Object}

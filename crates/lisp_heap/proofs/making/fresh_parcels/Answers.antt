@@ -1,5 +1,5 @@
 -- The parcels so far are fresh, and there is room for the rest.
-use Rattle.std.proofs.Common.{◌≡◌, ◌≢◌, ℕ, ◌+◌, ◌<◌, ◌≤◌, ◌++◌, List, [], ◌∷◌, length, arith, subst, ap, ◌∙◌, sym, refl, inl, inr}
+use Rattle.std.proofs.Common.{◌≡◌, ◌≢◌, ℕ, ◌+◌, ◌<◌, ◌++◌, List, [], ◌∷◌, length, arith, subst, ap, ◌∙◌, sym, refl, inl, inr}
 use Rattle.std.proofs.lemmas.List.{length_push}
 use Rattle.heap_terms.proofs.Places.{push_cases}
 use Rattle.lisp_heap.specs.Agreement.{AreFresh}

@@ -1,7 +1,6 @@
 -- The end of a thread is one event.
-use Rattle.std.proofs.Common.{◌≡◌, ◌≢◌, ℕ, ◌<◌, ◌++◌, ◌∷◌, [], length, arith, subst, ap, ◌∙◌, sym, refl}
+use Rattle.std.proofs.Common.{◌≡◌, ℕ, ◌<◌, length, arith, subst, sym, refl}
 use Rattle.heap_terms.specs.declared.events.Event.TheVariants.{Ended}
-use Rattle.heap_terms.specs.declared.pages.Next.{Next}
 use Rattle.heap_terms.specs.declared.pages.Next.TheVariants as nexts
 use Rattle.heap_terms.specs.Heap.{NamedHeap}
 use Rattle.heap_terms.specs.Histories.{after, next}
@@ -9,7 +8,7 @@ use Rattle.lisp_heap.specs.Agreement.{Agrees}
 use Rattle.lisp_heap.specs.Parcels.{empty_parcel}
 use Rattle.lisp_heap.specs.Sound.{view_of, parts_of, IsSound}
 use Rattle.lisp_heap.specs.Standing.{Holds}
-use Rattle.lisp_heap.specs.View.{View, heap_of, next_of}
+use Rattle.lisp_heap.specs.View.{View, next_of}
 use Rattle.lisp_heap.specs.declared.world.World.TheInside.{Inside}
 use Rattle.lisp_heap.proofs.Ending.{after_end_holds, end_next, end_others, end_empty}
 use Rattle.lisp_heap.proofs.Soundness.{heap, well_formed, states_length, cells_room}

@@ -1,5 +1,5 @@
 -- A page is filled at most to its end.
-use Rattle.std.proofs.Common.{◌≡◌, ◌≤◌, ℕ, arith, ap}
+use Rattle.std.proofs.Common.{◌≡◌, ◌≤◌, arith, ap}
 use Rattle.heap_terms.specs.Heap.{fill_of}
 use Rattle.lisp_heap.proofs.PageReading.{page_small, entry_most}
 use Rattle.lisp_heap.proofs.world.World.fill.Goals as goal

@@ -1,5 +1,5 @@
 -- The World at the start.
-use Rattle.std.proofs.Common.{◌≡◌, ℕ, length, ap, ◌∙◌, refl, replicate}
+use Rattle.std.proofs.Common.{ℕ, ap, ◌∙◌, refl, replicate}
 use Rattle.lisp_heap.specs.Sound.{parts_of}
 use Rattle.lisp_heap.specs.State.{fresh_state}
 use Rattle.lisp_heap.specs.declared.world.World.TheInside.{Inside}
