@@ -1,11 +1,11 @@
 -- A slot comes from home and takes its place in the hand, which is in the order of the numbers.
-use Rattle.std.proofs.Common.{◌≡◌, ◌≢◌, ◌⊎◌, ◌<◌, ◌≤◌, ◌+◌, ℕ, zero, suc, Bool, true, false, List, [], ◌∷◌, Option, None, Some, option_map, map, length, set, eqb, ltb, refl, sym, ap, ◌∙◌, subst, inl, inr, ⊎_elim, lt-ltb, le-ltb, set-set, eq-eqb, ne_eqb, arith}
+use Rattle.std.proofs.Common.{◌≡◌, ◌≢◌, ◌<◌, ◌≤◌, ◌+◌, ℕ, zero, suc, Bool, true, false, List, [], ◌∷◌, Option, option_map, set, ltb, refl, sym, ap, ◌∙◌, subst, ⊎_elim, lt-ltb, le-ltb, set-set, arith}
 use Rattle.std.proofs.lemmas.List.{set_comm}
-use Rattle.std.specs.Prelude.{if◌then◌else◌, nat_lt}
+use Rattle.std.specs.Prelude.{if◌then◌else◌}
 use mathlib.Core.Option.{some, none}
 use lib.ListN.{get_elem?}
 use Rattle.atomic_table.specs.Table.{Act, Valid, homes_after, carried_after}
-use Rattle.atomic_table.specs.Table.Act.{keeps, takes, gives, chain}
+use Rattle.atomic_table.specs.Table.Act.{takes, gives, chain}
 use Rattle.atomic_table.proofs.Lists.{set_here, set_else, set_again}
 use Rattle.stop_words.specs.Places.{is_in}
 use Rattle.stop_words.specs.Hands.{label, labels, picked}

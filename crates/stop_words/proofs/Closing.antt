@@ -1,12 +1,11 @@
 -- What the slots had at the end.
-use Rattle.std.proofs.Common.{◌≡◌, ◌≢◌, ◌<◌, ◌≤◌, ◌+◌, ℕ, zero, suc, Bool, true, false, List, [], ◌∷◌, ◌++◌, Option, None, Some, length, take, option_to_list, get_or, refl, sym, ap, ◌∙◌, subst, add-one, take_all, arith}
+use Rattle.std.proofs.Common.{◌≡◌, ◌<◌, ◌+◌, ℕ, zero, suc, Bool, true, false, List, [], ◌∷◌, ◌++◌, Option, None, Some, length, take, option_to_list, refl, sym, ap, ◌∙◌, subst, add-one, arith}
 use Rattle.std.specs.Prelude.{slice_get, slice_index}
 use mathlib.Core.Option.{some, some-injective, some-ne-none}
 use lib.ListN.{get_elem?}
-use Rattle.atomic_table.specs.Table.{State, Final}
+use Rattle.atomic_table.specs.Table.{Final}
 use Rattle.stop_words.specs.declared.view.Place.{Place}
 use Rattle.stop_words.specs.declared.view.Place.TheVariants.{Parked, Outside, Inside, Holding}
-use Rattle.stop_words.specs.declared.view.View.{View}
 use Rattle.stop_words.specs.Places.{word_of, is_in, is_home}
 use Rattle.stop_words.specs.Rule.{LiesAt, StopRule}
 use Rattle.stop_words.specs.Slots.{parcels_in, ClosesWith}

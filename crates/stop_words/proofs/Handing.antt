@@ -1,5 +1,5 @@
 -- The hand of the holder, slot by slot, and the owners of parcels, number by number.
-use Rattle.std.proofs.Common.{◌≡◌, ◌≢◌, ◌⊎◌, ◌<◌, ◌≤◌, ◌+◌, ◌-◌, ℕ, zero, suc, Bool, true, false, List, [], ◌∷◌, ◌++◌, Option, None, Some, option_map, map, length, reverse, refl, sym, ap, ◌∙◌, subst, append_assoc, append-nil, add-one, arith}
+use Rattle.std.proofs.Common.{◌≡◌, ◌≢◌, ◌<◌, ◌≤◌, ◌+◌, ◌-◌, ℕ, zero, suc, Bool, true, false, List, [], ◌∷◌, ◌++◌, Option, None, Some, option_map, map, length, reverse, refl, sym, ap, ◌∙◌, subst, append_assoc, add-one, arith}
 use Rattle.std.proofs.lemmas.List.{map-append, reverse-append, reverse-reverse, length-map, length-reverse}
 use Rattle.std.specs.Prelude.{if◌then◌else◌, slice_get}
 use Rattle.atomic_table.specs.Table.{Me, rest, turned}
@@ -8,8 +8,8 @@ use Rattle.stop_words.specs.declared.view.View.{View}
 use Rattle.stop_words.specs.Views.{SeenAll}
 use Rattle.stop_words.specs.Places.{is_in}
 use Rattle.stop_words.specs.Hands.{label, labels, picked, lying, labelled, hand_at}
-use Rattle.stop_words.specs.Owners.{numbers_from, ByOwner}
-use Rattle.stop_words.proofs.SeatFacts.{Facts, head_of, read_label}
+use Rattle.stop_words.specs.Owners.{numbers_from}
+use Rattle.stop_words.proofs.SeatFacts.{Facts, head_of}
 use Rattle.stop_words.proofs.Start.{length-numbers_from}
 
 map-reverse : {A B : Type 0} (f : A → B) (xs : List A) → map f (reverse xs) ≡ reverse (map f xs)

@@ -1,12 +1,12 @@
 -- Looks, one after the other.
-use Rattle.std.proofs.Common.{◌≡◌, ◌≢◌, ◌⊎◌, ◌<◌, ◌≤◌, ◌+◌, ◌-◌, ℕ, suc, Bool, true, false, List, [], ◌∷◌, refl, sym, ap, ◌∙◌, subst, inl, inr, ⊎_elim, lt-ltb, le-ltb, arith}
-use Rattle.std.specs.Prelude.{if◌then◌else◌, nat_lt}
+use Rattle.std.proofs.Common.{◌≡◌, ◌≢◌, ◌⊎◌, ◌<◌, ◌≤◌, ◌+◌, ◌-◌, ℕ, suc, Bool, true, false, List, ◌∷◌, refl, sym, ap, ◌∙◌, inl, inr, ⊎_elim, lt-ltb, le-ltb, arith}
+use Rattle.std.specs.Prelude.{if◌then◌else◌}
 use Rattle.heap_terms.specs.declared.steps.WordStep.TheVariants.{Look}
 use Rattle.heap_terms.specs.declared.steps.StepAnswer.TheVariants as answered
 use Rattle.heap_terms.specs.WordMachine.{has, answer}
 use Rattle.stop_words.specs.declared.view.View.{View}
 use Rattle.stop_words.specs.Places.{is_in}
-use Rattle.stop_words.specs.Views.{view_after, seeing, counted, SeenAll, others_below}
+use Rattle.stop_words.specs.Views.{view_after, seeing, counted, others_below}
 use Rattle.stop_words.specs.Replies.{is_done}
 use Rattle.stop_words.specs.Gathers.{OnlyLooked, AllSeen, Unseen}
 use Rattle.stop_words.specs.Looks.{SeenTo, StoppedAt}

@@ -1,25 +1,24 @@
 -- The kinds of step: each may be done, and tells what its `Play` says.
-use Rattle.std.proofs.Common.{◌≡◌, ◌≢◌, ◌⊎◌, ◌<◌, ◌≤◌, ◌+◌, ℕ, zero, suc, Bool, true, false, List, [], ◌∷◌, Option, None, Some, option_map, length, set, get_or, eqb, refl, sym, ap, ◌∙◌, subst, inl, inr, ⊎_elim, length-set, eq-eqb, ne_eqb, bit_and, bit_or, arith}
+use Rattle.std.proofs.Common.{◌≡◌, ◌≢◌, ◌<◌, ℕ, zero, suc, Bool, true, false, List, [], ◌∷◌, Option, Some, length, set, eqb, refl, sym, ap, ◌∙◌, subst, ⊎_elim, length-set, ne_eqb, bit_and, bit_or, arith}
 use Rattle.std.specs.Prelude.{slice_index}
 use mathlib.Core.Option.{some, none}
 use lib.ListN.{get_elem?}
 use prog.Atomic.{either}
-use Rattle.atomic_table.specs.Table.{State, Me, Step, step, Act, Valid, homes_after, carried_after, rest, Allows}
+use Rattle.atomic_table.specs.Table.{State, Me, step, Act, Valid, homes_after, carried_after, Allows}
 use Rattle.atomic_table.specs.Table.Act.{keeps, takes, gives, chain}
-use Rattle.atomic_table.proofs.Lists.{set_here, set_else, set_again}
-use Rattle.heap_terms.specs.declared.steps.WordStep.{WordStep}
+use Rattle.atomic_table.proofs.Lists.{set_here, set_else}
 use Rattle.heap_terms.specs.declared.steps.WordStep.TheVariants.{Resume, Enter, Leave, Park, Claim, Post, Look, Release, Return}
 use Rattle.stop_words.specs.declared.view.Place.{Place}
 use Rattle.stop_words.specs.declared.view.Place.TheVariants.{Parked, Outside, Inside, Holding}
 use Rattle.stop_words.specs.declared.view.View.{View}
-use Rattle.stop_words.specs.Places.{word_of, is_in, without, lists_at, is_home}
+use Rattle.stop_words.specs.Places.{word_of, is_in, lists_at, is_home}
 use Rattle.stop_words.specs.Views.{view_after, seeing, moved, counted}
 use Rattle.stop_words.specs.Hands.{label, labels, picked, lying}
 use Rattle.stop_words.specs.Rule.{FitsView, LiesAt, StopRule}
-use Rattle.stop_words.specs.Plays.{Walked, Resumed, ParkedIn, Claimed, Posted, Looked, Released, Returned, IsWordAt, IsWord}
-use Rattle.stop_words.proofs.Basics.{if_other, same_or_not, le_or_lt, below, none_in, off, true_not_false}
+use Rattle.stop_words.specs.Plays.{Walked, Resumed, ParkedIn, Claimed, Posted, Looked, Released, Returned, IsWord}
+use Rattle.stop_words.proofs.Basics.{if_other, same_or_not, le_or_lt, below, true_not_false}
 use Rattle.stop_words.proofs.Rules.{Keeps, SlotChange, no_change, own_step, same_step, claim_step, return_step, post_step, look_step, release_step, is_below}
-use Rattle.stop_words.proofs.Acts.{ins, inserted, Out, Works, around, ins_works, picked_out, picked_more}
+use Rattle.stop_words.proofs.Acts.{ins, inserted, Out, around, ins_works, picked_out, picked_more}
 
 outside_not_holding : {p : Place} → p ≡ Outside → p ≢ Holding
 outside_not_holding e h = let q : Outside ≡ Holding = sym e ∙ h in cc

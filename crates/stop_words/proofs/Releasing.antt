@@ -1,12 +1,12 @@
 -- Stops taken back, one after the other.
-use Rattle.std.proofs.Common.{◌≡◌, ◌≢◌, ◌⊎◌, ◌<◌, ◌≤◌, ◌+◌, ◌-◌, ℕ, suc, Bool, true, false, List, [], ◌∷◌, Option, None, Some, refl, sym, ap, ◌∙◌, subst, inl, inr, ⊎_elim, bit_and, arith}
+use Rattle.std.proofs.Common.{◌≡◌, ◌≢◌, ◌⊎◌, ◌<◌, ◌≤◌, ◌+◌, ℕ, suc, true, false, List, [], ◌∷◌, Option, None, Some, refl, sym, ap, ◌∙◌, inl, inr, ⊎_elim, bit_and, arith}
 use Rattle.atomic_table.specs.Table.{Me, step, rest, Allows}
 use mathlib.Core.Option.{none}
 use Rattle.heap_terms.specs.declared.steps.WordStep.TheVariants.{Release, Return}
-use Rattle.stop_words.specs.declared.view.Place.TheVariants.{Parked, Outside, Inside, Holding}
+use Rattle.stop_words.specs.declared.view.Place.TheVariants.{Holding}
 use Rattle.stop_words.specs.declared.view.View.{View}
 use Rattle.stop_words.specs.Places.{is_in, without, lists_at}
-use Rattle.stop_words.specs.Views.{view_after, SeenAll}
+use Rattle.stop_words.specs.Views.{view_after}
 use Rattle.stop_words.specs.Hands.{labels, hand_at}
 use Rattle.stop_words.specs.Rule.{StopRule}
 use Rattle.stop_words.specs.Plays.{Released}

@@ -1,14 +1,13 @@
 -- From what a step tells to what a call says.
-use Rattle.std.proofs.Common.{◌≡◌, ◌≢◌, ◌<◌, ◌≤◌, ℕ, suc, Bool, true, false, not, eqb, List, [], ◌∷◌, Option, None, Some, option_map, refl, sym, ap, ◌∙◌, subst, bit_and, bit_or}
+use Rattle.std.proofs.Common.{◌≡◌, ℕ, suc, Bool, true, false, not, eqb, [], ◌∷◌, Option, Some, refl, sym, ap, ◌∙◌, subst, bit_and, bit_or}
 use Rattle.std.specs.Prelude.{if◌then◌else◌}
 use mathlib.Core.Option.{none}
 use Rattle.atomic_table.specs.Table.{Me, step, rest, Allows}
 use Rattle.heap_terms.specs.declared.steps.WordStep.{WordStep}
-use Rattle.heap_terms.specs.declared.steps.WordStep.TheVariants.{Resume, Enter, Leave, Park, Claim, Post, Look, Release, Return}
-use Rattle.heap_terms.specs.declared.steps.StepAnswer.{StepAnswer}
+use Rattle.heap_terms.specs.declared.steps.WordStep.TheVariants.{Post, Look}
 use Rattle.heap_terms.specs.declared.steps.StepAnswer.TheVariants as answered
 use Rattle.heap_terms.specs.WordMachine.{answer}
-use Rattle.stop_words.specs.declared.view.Place.TheVariants.{Parked, Outside, Inside, Holding}
+use Rattle.stop_words.specs.declared.view.Place.TheVariants.{Outside}
 use Rattle.stop_words.specs.declared.view.View.{View}
 use Rattle.stop_words.specs.Views.{view_after}
 use Rattle.stop_words.specs.Hands.{labels}

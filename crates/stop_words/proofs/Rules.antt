@@ -1,16 +1,16 @@
 -- Each kind of step keeps the rule.
-use Rattle.std.proofs.Common.{◌≡◌, ◌≢◌, ◌⊎◌, ◌<◌, ◌≤◌, ◌+◌, ℕ, zero, suc, Bool, true, false, List, [], ◌∷◌, ◌++◌, Option, Some, length, set, get_or, refl, sym, ap, ◌∙◌, subst, inl, inr, ⊎_elim, length-set, length-append, get_or-set_same, get_or-set_other, map, map-id, replicate, arith}
-use Rattle.std.proofs.lemmas.List.{set-get_or, get_or-replicate}
+use Rattle.std.proofs.Common.{◌≡◌, ◌≢◌, ◌<◌, ◌≤◌, ℕ, suc, Bool, true, false, List, [], ◌∷◌, Option, length, set, get_or, refl, sym, ap, ◌∙◌, subst, ⊎_elim, length-set, get_or-set_same, get_or-set_other, arith}
+use Rattle.std.proofs.lemmas.List.{set-get_or}
 use mathlib.Core.Option.{some, none, some-ne-none, some-injective}
 use lib.ListN.{get_elem?}
 use Rattle.atomic_table.specs.Table.{State}
-use Rattle.atomic_table.proofs.Lists.{at_set, at_snoc, at_last}
+use Rattle.atomic_table.proofs.Lists.{at_set}
 use Rattle.stop_words.specs.declared.view.Place.{Place}
-use Rattle.stop_words.specs.declared.view.Place.TheVariants.{Parked, Outside, Inside, Holding}
+use Rattle.stop_words.specs.declared.view.Place.TheVariants.{Parked, Outside, Holding}
 use Rattle.stop_words.specs.declared.view.View.{View}
 use Rattle.stop_words.specs.Places.{word_of, is_in, without, lists_at, is_home}
 use Rattle.stop_words.specs.Rule.{FitsView, LiesAt, StopRule}
-use Rattle.stop_words.proofs.Basics.{same_or_not, below, put, put_here, put_else, in_here, in_else, not_in_without, in_without, lists_at_else, not_home, none_in, off}
+use Rattle.stop_words.proofs.Basics.{same_or_not, below, put, put_here, put_else, in_here, in_else, not_in_without, in_without, lists_at_else, none_in, off}
 
 -- the view is the same but for its place, its lists, and what tells of steps
 pub record Keeps (v w : View) : Type 0 where

@@ -1,16 +1,14 @@
 -- What a seat knows and holds, before and after each step.
-use Rattle.std.proofs.Common.{◌≡◌, ◌≢◌, ◌<◌, ◌≤◌, ◌+◌, ℕ, zero, suc, Bool, true, false, List, [], ◌∷◌, Option, None, Some, option_map, MatchOption, refl, sym, ap, ◌∙◌, subst, ⊎_elim, arith}
+use Rattle.std.proofs.Common.{◌≡◌, ◌≢◌, ◌<◌, ℕ, zero, suc, Bool, true, false, List, [], ◌∷◌, Option, None, Some, option_map, refl, sym, ap, ◌∙◌, subst, ⊎_elim, arith}
 use Rattle.std.specs.Prelude.{if◌then◌else◌, IsSome}
 use Rattle.atomic_table.specs.Seated.{TableId}
-use Rattle.atomic_table.specs.Table.{Me, Step, step, rest}
+use Rattle.atomic_table.specs.Table.{Me, step, rest}
 use mathlib.Core.Option.{none}
-use Rattle.heap_terms.specs.declared.steps.WordStep.{WordStep}
-use Rattle.heap_terms.specs.declared.steps.WordStep.TheVariants.{Resume, Enter, Leave, Park, Claim, Post, Look, Release, Return}
+use Rattle.heap_terms.specs.declared.steps.WordStep.TheVariants.{Resume, Enter, Leave, Park, Claim, Post, Look}
 use Rattle.heap_terms.specs.WordMachine.{has}
-use Rattle.stop_words.specs.declared.view.Place.{Place}
 use Rattle.stop_words.specs.declared.view.Place.TheVariants.{Parked, Outside, Inside, Holding}
 use Rattle.stop_words.specs.declared.view.View.{View}
-use Rattle.stop_words.specs.Places.{is_in, without, lists_at}
+use Rattle.stop_words.specs.Places.{is_in, lists_at}
 use Rattle.stop_words.specs.Views.{view_after, seeing, moved, counted, SeenAll}
 use Rattle.stop_words.specs.Hands.{label, labels, picked, lying, hand_at}
 use Rattle.stop_words.specs.Plays.{Looked}

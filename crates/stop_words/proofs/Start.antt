@@ -1,18 +1,17 @@
 -- The rule holds at the start, and where the first seat splits off another.
-use Rattle.std.proofs.Common.{◌≡◌, ◌≢◌, ◌⊎◌, ◌<◌, ◌≤◌, ◌+◌, ℕ, zero, suc, Bool, true, false, List, [], ◌∷◌, ◌++◌, Option, Some, length, set, get_or, map, replicate, refl, sym, ap, ◌∙◌, subst, inl, inr, ⊎_elim, length-set, length-append, arith}
+use Rattle.std.proofs.Common.{◌≡◌, ◌⊎◌, ◌<◌, ◌+◌, ℕ, zero, suc, List, [], ◌∷◌, ◌++◌, Some, length, set, map, replicate, refl, sym, ap, ◌∙◌, subst, inl, inr, ⊎_elim, length-set, length-append, arith}
 use Rattle.std.proofs.lemmas.List.{get_or-replicate, length-map}
-use mathlib.Core.Option.{some, none, some-ne-none, some-injective}
+use mathlib.Core.Option.{some, some-ne-none, some-injective}
 use lib.ListN.{get_elem?, length-replicate}
-use Rattle.atomic_table.specs.Table.{State, Splits, opening}
+use Rattle.atomic_table.specs.Table.{Splits, opening}
 use Rattle.atomic_table.proofs.Lists.{at_map}
-use Rattle.stop_words.specs.declared.view.Place.{Place}
-use Rattle.stop_words.specs.declared.view.Place.TheVariants.{Parked, Outside, Inside, Holding}
+use Rattle.stop_words.specs.declared.view.Place.TheVariants.{Parked, Holding}
 use Rattle.stop_words.specs.declared.view.View.{View}
-use Rattle.stop_words.specs.Places.{word_of, is_in, lists_at, is_home}
+use Rattle.stop_words.specs.Places.{lists_at}
 use Rattle.stop_words.specs.Owners.{numbers_from, ByOwner}
-use Rattle.stop_words.specs.Rule.{FitsView, LiesAt, StopRule, first_view, splitting, split_off}
-use Rattle.stop_words.proofs.Basics.{same_or_not, below, off}
-use Rattle.stop_words.proofs.Rules.{fits_set, Keeps}
+use Rattle.stop_words.specs.Rule.{FitsView, StopRule, first_view, splitting, split_off}
+use Rattle.stop_words.proofs.Basics.{below, off}
+use Rattle.stop_words.proofs.Rules.{fits_set}
 
 at_snoc_at : {A : Type 0} (l : List A) (a b : A) (j : ℕ) → get_elem? (l ++ a ∷ []) j ≡ some b → (get_elem? l j ≡ some b) ⊎ ((j ≡ length l) × (a ≡ b))
 at_snoc_at [] a b zero e = inr (refl, some-injective a b e)

@@ -1,11 +1,10 @@
 -- What the holder of the turn knows after looking at the other threads, and after it took their stops back. This project's own.
-use Rattle.std.specs.Prelude.{◌≡◌, ◌≢◌, ◌+◌, ◌-◌, ◌<◌, ◌≤◌, ◌⊎◌, ℕ, suc, Bool, true, false, List, []}
+use Rattle.std.specs.Prelude.{◌≡◌, ◌≢◌, ◌+◌, ◌-◌, ◌<◌, ◌≤◌, ◌⊎◌, ℕ, suc, true, false, []}
 use Rattle.heap_terms.specs.WordMachine.{has}
 use Rattle.stop_words.specs.declared.view.Place.TheVariants.{Outside}
 use Rattle.stop_words.specs.declared.view.View.{View}
 use Rattle.stop_words.specs.Places.{is_in}
 use Rattle.stop_words.specs.Views.{SeenAll, others_below}
-use Rattle.stop_words.specs.Owners.{ByOwner}
 
 -- Steps that only looked: the view is the same but for the threads that were seen, of which there may be more, the count of steps and the latest step
 pub record OnlyLooked (v w : View) : Type 0 where

@@ -3,7 +3,6 @@ use Rattle.std.specs.Prelude.{ℕ, zero, suc, Bool, true, false, Option, None, S
 use Rattle.std.specs.Option.{option_map}
 use Rattle.stop_words.specs.declared.view.Place.{Place}
 use Rattle.stop_words.specs.declared.view.Place.TheVariants.{Parked, Outside, Inside, Holding}
-use Rattle.stop_words.specs.declared.view.View.{View}
 use Rattle.stop_words.specs.Places.{is_in}
 
 module _ {P : Type 0} (owner : P → ℕ) where

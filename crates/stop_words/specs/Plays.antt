@@ -1,12 +1,12 @@
 -- What each kind of step tells: of the step, the seat before, the word found and the seat after. This project's own.
-use Rattle.std.specs.Prelude.{◌≡◌, ◌≢◌, ◌≤◌, ◌<◌, ℕ, suc, Bool, true, false, Option, None, Some, List, [], ◌∷◌}
+use Rattle.std.specs.Prelude.{◌≡◌, ◌≢◌, ◌≤◌, ℕ, suc, Bool, false, Option, Some, [], ◌∷◌}
 use Rattle.atomic_table.specs.Table.{Me, Step, rest}
 use Rattle.heap_terms.specs.declared.steps.WordStep.{WordStep}
-use Rattle.heap_terms.specs.declared.steps.WordStep.TheVariants.{Resume, Enter, Leave, Park, Claim, Post, Look, Release, Return}
+use Rattle.heap_terms.specs.declared.steps.WordStep.TheVariants.{Resume, Park, Claim, Post, Look, Release, Return}
 use Rattle.stop_words.specs.declared.view.Place.{Place}
-use Rattle.stop_words.specs.declared.view.Place.TheVariants.{Parked, Outside, Inside, Holding}
+use Rattle.stop_words.specs.declared.view.Place.TheVariants.{Parked, Outside}
 use Rattle.stop_words.specs.declared.view.View.{View}
-use Rattle.stop_words.specs.Places.{word_of, is_in}
+use Rattle.stop_words.specs.Places.{word_of}
 use Rattle.stop_words.specs.Views.{view_after}
 use Rattle.stop_words.specs.Hands.{labels, picked, lying}
 

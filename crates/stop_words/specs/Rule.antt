@@ -1,12 +1,12 @@
 -- What holds between any two steps on the words. This project's own.
 -- The turn is the number of the holder and one more, or 0. The word of a thread tells its place, and whether the holder has posted a
 -- stop to it. A parcel lies in the slot of its thread, unless the thread runs or the holder has seen it parked: then a seat has the slot.
-use Rattle.std.specs.Prelude.{◌≡◌, ◌≢◌, ◌<◌, ◌≤◌, ◌+◌, ℕ, suc, Bool, true, false, Option, Some, List, [], ◌∷◌, length, slice_index}
+use Rattle.std.specs.Prelude.{◌≡◌, ◌≢◌, ◌<◌, ◌≤◌, ◌+◌, ℕ, suc, Bool, true, false, Option, Some, List, [], length, slice_index}
 use mathlib.Core.Option.{some, none}
 use lib.ListN.{get_elem?}
 use Rattle.atomic_table.specs.Table.{State}
 use Rattle.stop_words.specs.declared.view.Place.{Place}
-use Rattle.stop_words.specs.declared.view.Place.TheVariants.{Parked, Outside, Inside, Holding}
+use Rattle.stop_words.specs.declared.view.Place.TheVariants.{Parked, Holding}
 use Rattle.stop_words.specs.declared.view.View.{View}
 use Rattle.stop_words.specs.Places.{word_of, is_in, lists_at, is_home}
 

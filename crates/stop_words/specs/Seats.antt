@@ -1,5 +1,5 @@
 -- What a caller knows of a seat, and what it knows of the stop words. This project's own.
-use Rattle.std.specs.Prelude.{◌≡◌, ◌+◌, ℕ, suc, Bool, true, false, Some, List, slice_get}
+use Rattle.std.specs.Prelude.{◌≡◌, ℕ, suc, Bool, false, Some, List, slice_get}
 use Rattle.heap_terms.specs.declared.steps.WordStep.{WordStep}
 use Rattle.heap_terms.specs.declared.steps.Owned.{Ghosts}
 use Rattle.stop_words.specs.declared.view.View.{View}

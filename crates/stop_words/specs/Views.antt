@@ -1,5 +1,5 @@
 -- What a step changes in the view of the seat that does it. This project's own.
-use Rattle.std.specs.Prelude.{◌≡◌, ◌≢◌, ◌==◌, ◌+◌, ◌-◌, ◌<◌, ◌<◌, ℕ, suc, Bool, true, false, List, [], ◌∷◌, if◌then◌else◌, nat_lt}
+use Rattle.std.specs.Prelude.{◌≡◌, ◌≢◌, ◌==◌, ◌+◌, ◌-◌, ◌<◌, ◌<◌, ℕ, Bool, true, false, [], ◌∷◌, if◌then◌else◌, nat_lt}
 use Rattle.heap_terms.specs.declared.steps.WordStep.{WordStep}
 use Rattle.heap_terms.specs.declared.steps.WordStep.TheVariants.{Resume, Enter, Leave, Park, Claim, Post, Look, Release, Return}
 use Rattle.heap_terms.specs.WordMachine.{has, place_of}

@@ -1,4 +1,4 @@
-use Rattle.std.proofs.Common.{◌≡◌, ◌++◌, ◌-◌, length, ap, sym, ◌∙◌, option_to_list, vec_len, arith}
+use Rattle.std.proofs.Common.{◌≡◌, ◌++◌, ◌-◌, length, ap, ◌∙◌, option_to_list, vec_len, arith}
 use Rattle.stop_words.proofs.Seating.{fresh_rest, fresh_last}
 use Rattle.stop_words.proofs.tests.last_seat.Goals as goal
 

@@ -1,4 +1,4 @@
-use Rattle.std.proofs.Common.{◌≡◌, [], ◌∷◌, None, Some, rules, suc, ap, sym, ◌∙◌, arith}
+use Rattle.std.proofs.Common.{[], ◌∷◌, Some, suc, ap, sym, ◌∙◌, arith}
 use Rattle.stop_words.proofs.Moves.{resumes}
 use Rattle.stop_words.proofs.SeatFacts.{head_of}
 use Rattle.stop_words.proofs.seats.StopWords.come_back.Goals as goal

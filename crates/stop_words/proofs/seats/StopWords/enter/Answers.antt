@@ -1,4 +1,4 @@
-use Rattle.std.proofs.Common.{rules, suc, ap, sym, ◌∙◌}
+use Rattle.std.proofs.Common.{suc, ap, sym, ◌∙◌}
 use Rattle.stop_words.proofs.Moves.{enters}
 use Rattle.stop_words.proofs.SeatFacts.{word_below}
 use Rattle.stop_words.proofs.seats.StopWords.enter.Goals as goal

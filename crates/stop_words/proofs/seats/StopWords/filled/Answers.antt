@@ -1,4 +1,4 @@
-use Rattle.std.proofs.Common.{rules, ap, ◌∙◌}
+use Rattle.std.proofs.Common.{ap, ◌∙◌}
 use Rattle.stop_words.specs.Slots.{parcels_in}
 use Rattle.stop_words.proofs.Seating.{parcels_back, begins_so}
 use Rattle.stop_words.proofs.seats.StopWords.filled.Goals as goal

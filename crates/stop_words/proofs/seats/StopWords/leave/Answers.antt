@@ -1,4 +1,4 @@
-use Rattle.std.proofs.Common.{rules, suc, ap, sym, ◌∙◌}
+use Rattle.std.proofs.Common.{suc, ap, sym, ◌∙◌}
 use Rattle.atomic_table.specs.Seated.{TableId}
 use Rattle.stop_words.proofs.Moves.{leaves}
 use Rattle.stop_words.proofs.SeatFacts.{Facts, word_below, after_leave}

@@ -1,4 +1,4 @@
-use Rattle.std.proofs.Common.{◌≡◌, [], ◌∷◌, None, Some, rules, suc, ap, sym, ◌∙◌, arith}
+use Rattle.std.proofs.Common.{None, Some, ◌∙◌, arith}
 use Rattle.stop_words.proofs.Replying.{parks_after, gone_home}
 use Rattle.stop_words.proofs.seats.StopWords.lie_down.Goals as goal
 

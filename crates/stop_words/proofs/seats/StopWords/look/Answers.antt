@@ -1,7 +1,7 @@
-use Rattle.std.proofs.Common.{◌≡◌, true, rules, suc, ap, sym, subst, ◌∙◌, arith}
+use Rattle.std.proofs.Common.{true, ap, sym, subst, ◌∙◌, arith}
 use Rattle.atomic_table.specs.Seated.{TableId}
 use Rattle.heap_terms.specs.declared.steps.WordStep
-use Rattle.stop_words.proofs.Replying.{did, found_word, done_test, inside_test}
+use Rattle.stop_words.proofs.Replying.{did, found_word, done_test}
 use Rattle.stop_words.proofs.Looking.{one_look, found_parked}
 use Rattle.stop_words.proofs.Moves.{looks}
 use Rattle.stop_words.proofs.SeatFacts.{Facts, after_look, hand_before_look}

@@ -1,4 +1,4 @@
-use Rattle.std.proofs.Common.{ap, sym, ◌∙◌, add_comm, arith}
+use Rattle.std.proofs.Common.{ap, arith}
 use Rattle.atomic_table.specs.Seated.{TableId}
 use Rattle.stop_words.proofs.seats.StopWords.look_at_all.Goals as goal
 

@@ -1,5 +1,5 @@
-use Rattle.std.proofs.Common.{true, false, sym, ◌∙◌, arith}
-use Rattle.stop_words.proofs.Looking.{found_parked, one_more, stops}
+use Rattle.std.proofs.Common.{true, sym, ◌∙◌, arith}
+use Rattle.stop_words.proofs.Looking.{found_parked, one_more}
 use Rattle.stop_words.proofs.seats.StopWords.look_range.Goals as goal
 
 pub loop-other-preserved : goal.loop-other-preserved

@@ -1,7 +1,7 @@
-use Rattle.std.proofs.Common.{◌≡◌, rules, suc, ap, sym, ◌∙◌, arith}
+use Rattle.std.proofs.Common.{ap, ◌∙◌, arith}
 use Rattle.atomic_table.specs.Seated.{TableId}
 use Rattle.heap_terms.specs.declared.steps.WordStep
-use Rattle.stop_words.proofs.Replying.{did, found_word, done_test, inside_test}
+use Rattle.stop_words.proofs.Replying.{did, found_word, inside_test}
 use Rattle.stop_words.specs.declared.view.View.{View}
 use Rattle.stop_words.proofs.Moves.{posts}
 use Rattle.stop_words.proofs.SeatFacts.{Facts, after_post}

@@ -1,7 +1,6 @@
-use Rattle.std.proofs.Common.{◌≡◌, ◌<◌, ◌+◌, ◌-◌, ◌++◌, ℕ, List, [], ◌∷◌, None, Some, true, false, ap, sym, subst, ◌∙◌, option_to_list, append-nil, length, map, reverse, vec_len, arith}
+use Rattle.std.proofs.Common.{◌≡◌, ◌++◌, [], true, ap, sym, subst, ◌∙◌, option_to_list, append-nil, length, arith}
 use Rattle.std.proofs.lemmas.List.{length-map}
-use Rattle.stop_words.specs.Hands.{labels, labelled, lying}
-use Rattle.stop_words.specs.Owners.{numbers_from}
+use Rattle.stop_words.specs.Hands.{labels, lying}
 use Rattle.stop_words.specs.Gathers.{GaveBack}
 use Rattle.stop_words.proofs.Start.{length-numbers_from}
 use Rattle.stop_words.proofs.Moves.{returns}

@@ -1,4 +1,4 @@
-use Rattle.std.proofs.Common.{◌≡◌, None, Some, ap, sym, ◌∙◌, arith}
+use Rattle.std.proofs.Common.{None, Some, ◌∙◌, arith}
 use Rattle.stop_words.proofs.Releasing.{releases_after, released_view, released_hand}
 use Rattle.stop_words.proofs.seats.StopWords.put_back.Goals as goal
 

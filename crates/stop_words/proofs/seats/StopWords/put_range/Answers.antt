@@ -1,6 +1,5 @@
-use Rattle.std.proofs.Common.{◌≡◌, ◌≤◌, ◌<◌, ◌+◌, ◌-◌, ◌++◌, ℕ, List, Option, [], ◌∷◌, Some, None, true, false, ap, sym, ◌∙◌, option_to_list, inr, arith}
-use Rattle.stop_words.specs.Hands.{labels, labelled, lying}
-use Rattle.stop_words.specs.Owners.{numbers_from}
+use Rattle.std.proofs.Common.{◌≤◌, ◌++◌, true, ap, ◌∙◌, option_to_list, inr, arith}
+use Rattle.stop_words.specs.Hands.{lying}
 use Rattle.stop_words.proofs.Handing.{first_slot, first_number, popped, some_left}
 use Rattle.stop_words.proofs.Releasing.{one_back}
 use Rattle.stop_words.proofs.seats.StopWords.put_range.Goals as goal

@@ -1,5 +1,5 @@
-use Rattle.std.proofs.Common.{◌≡◌, [], rules, suc, refl, ap, sym, ◌∙◌, length, vec_len, arith}
-use Rattle.stop_words.specs.Rule.{giving, splitting, split_off}
+use Rattle.std.proofs.Common.{◌≡◌, suc, refl, ap, ◌∙◌, length, arith}
+use Rattle.stop_words.specs.Rule.{splitting}
 use Rattle.stop_words.proofs.Start.{splits}
 use Rattle.stop_words.proofs.Seating.{others_push}
 use Rattle.stop_words.proofs.seats.StopWords.split_all.Goals as goal

@@ -1,6 +1,5 @@
-use Rattle.std.proofs.Common.{◌≡◌, ◌++◌, [], ◌∷◌, None, true, false, ap, sym, ◌∙◌}
-use Rattle.atomic_table.specs.Table.{turned}
-use Rattle.stop_words.specs.Hands.{labels, labelled, lying}
+use Rattle.std.proofs.Common.{true, false, ap, ◌∙◌}
+use Rattle.stop_words.specs.Hands.{labels, lying}
 use Rattle.stop_words.proofs.Handing.{own_last, own_between, own_first, all_parcels}
 use Rattle.stop_words.proofs.seats.StopWords.take_all.Goals as goal
 

@@ -1,6 +1,6 @@
-use Rattle.std.proofs.Common.{◌≡◌, ◌≤◌, ◌<◌, ◌+◌, ◌++◌, [], ◌∷◌, Some, None, true, false, ap, sym, ◌∙◌, arith}
+use Rattle.std.proofs.Common.{◌≤◌, Some, None, true, false, ap, ◌∙◌, arith}
 use Rattle.atomic_table.specs.Table.{turned}
-use Rattle.stop_words.specs.Hands.{labels, labelled, lying}
+use Rattle.stop_words.specs.Hands.{labels, lying}
 use Rattle.stop_words.proofs.SeatFacts.{head_of, read_label, some_there, owner_is}
 use Rattle.stop_words.proofs.Handing.{next_slot, turned_hand, more_parcels}
 use Rattle.stop_words.proofs.seats.StopWords.take_range.Goals as goal

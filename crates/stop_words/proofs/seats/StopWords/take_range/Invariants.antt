@@ -1,4 +1,4 @@
-use Rattle.std.proofs.Common.{◌≡◌, ℕ, ◌+◌, ◌-◌, ◌≤◌, List, ◌++◌, Option, map, true, false, vec_len, vec_capacity}
+use Rattle.std.proofs.Common.{◌≡◌, ℕ, ◌+◌, ◌-◌, List, ◌++◌, Option, map, true, false, vec_len, vec_capacity}
 use Rattle.stop_words.specs.Hands.{labels, labelled, lying}
 use Rattle.stop_words.specs.Owners.{numbers_from}
 use Rattle.stop_words.proofs.seats.StopWords.take_range.Given as goal
