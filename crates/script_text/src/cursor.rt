@@ -11,7 +11,7 @@ ghost use Rattle.script_text.specs.Answers.{only_field};
 ghost use Rattle.script_text.specs.Commands.{Moved, but_first, in_first, a_cell, an_index};
 
 use crate::plain::{plain_cell, plain_digit};
-use crate::values::{cell, fixnum, number_up_to, turn_of_digit, turns_in, Turns};
+use crate::values::{Turns, cell, fixnum, number_up_to, turn_of_digit, turns_in};
 use heap_terms::{Cell, Why};
 use std::marker::Model;
 
