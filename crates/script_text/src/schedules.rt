@@ -30,8 +30,8 @@ fn check_turns(threads: u32, left: &mut Cursor) -> Result<(), Why>
     ensures good { IfOk result (λ _. (ts : List ℕ) × (turns_of_all threads (fields_left left.old) ≡ Ok ts)) }
     ensures bad { IfErr result (λ why. turns_of_all threads (fields_left left.old) ≡ Err why) }
 {
-    while let Some(turns) = left.turns(threads) {
-        turns?;
+    while let Some(field) = left.next_field() {
+        turns_in(field, threads)?;
     }
     Ok(())
 }

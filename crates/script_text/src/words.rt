@@ -31,16 +31,16 @@ pub(crate) fn meaning_of(word: &[u8]) -> Option<Keyword>
     ensures { MatchOption result (is_built word.now ≡ false) (λ k. word.now ≡ text_of k) }
 {
     match word {
-        b"fix" => Some(Keyword::Command(Name::Fix)),
         b"cons" => Some(Keyword::Command(Name::Cons)),
         b"get" => Some(Keyword::Command(Name::Get)),
         b"put" => Some(Keyword::Command(Name::Put)),
         b"show" => Some(Keyword::Command(Name::Show)),
-        b"lispheap" => Some(Keyword::Lispheap),
-        b"heap" => Some(Keyword::Heap),
-        b"thread" => Some(Keyword::Thread),
+        b"fix" => Some(Keyword::Command(Name::Fix)),
         b"schedule" => Some(Keyword::Schedule),
+        b"thread" => Some(Keyword::Thread),
         b"end" => Some(Keyword::End),
+        b"heap" => Some(Keyword::Heap),
+        b"lispheap" => Some(Keyword::Lispheap),
         _ => None,
     }
 }
