@@ -4,6 +4,8 @@
 mod faults;
 mod journal;
 mod still;
+#[cfg(test)]
+mod tests;
 
 use heap_io::{StdSink, StdSource};
 use std::process::ExitCode;

@@ -1,0 +1,214 @@
+//! Whole inputs against whole outputs, statuses and what is said. The values are worked by hand.
+
+ghost use Rattle.std.specs.Prelude.{◌≤◌};
+
+use crate::still::lispheap_still;
+use heap_io::{MemorySink, MemorySource};
+use std::alloc::Global;
+use std::test::Fail;
+
+// The numbers, places and answers of the first commands.
+const FIRST: &str =
+    "lispheap 1\nheap 2\nthread\nfix s0 5\nfix s1 -6\ncons b0 s0 s1\nget s2 b0 0\nput b0 1 s0\nget s2 b0 1\nshow b0\nend\n";
+
+const FIRST_JOURNAL: &str =
+    "0 fix s0 5 -> ok\n0 fix s1 -6 -> ok\n0 open cons 0 1\n0 cons b0 s0 s1 -> #0 @0\n0 get s2 b0 0 -> 5\n0 put b0 1 s0 -> ok\n0 get s2 b0 1 -> 5\n0 show b0 -> #0\n0 end\ndone 9\n";
+
+// What one call does: its status, what was written, and what was said.
+#[derive(Drop)]
+struct Ended {
+    status: u8,
+    out: MemorySink,
+    err: MemorySink,
+}
+
+// How the streams of a call behave.
+#[derive(Clone, Copy)]
+struct Streams<'a> {
+    // The most bytes that one call passes.
+    most: u64,
+    // The numbers of the calls of the source, and of the output, that fail.
+    source_fails: &'a [u64],
+    out_fails: &'a [u64],
+}
+
+const WHOLE: Streams<'static> = Streams {
+    most: 1_000_000,
+    source_fails: &[],
+    out_fails: &[],
+};
+
+// Calls the program on words and an input.
+fn ended(alloc: Global, words: &[&str], input: &[u8], streams: Streams) -> Result<Ended, Fail>
+    requires { 1 ≤ streams.most }
+{
+    let mut spoken = Vec::new(alloc);
+    for word in words {
+        spoken.push(String::from_str(alloc, word)?)?;
+    }
+    let source_fails = Vec::from_slice(alloc, streams.source_fails)?;
+    let out_fails = Vec::from_slice(alloc, streams.out_fails)?;
+    let mut source = MemorySource::new(Vec::from_slice(alloc, input)?, streams.most, source_fails);
+    let mut out = MemorySink::new(alloc, streams.most, 100_000, out_fails)?;
+    let mut err = MemorySink::new(alloc, 1000, 1000, Vec::new(alloc))?;
+    let status = lispheap_still(alloc, &spoken, &mut source, &mut out, &mut err);
+    Ok(Ended { status, out, err })
+}
+
+// Calls `replay` and compares status, output and what is said.
+fn assert_replay(
+    rt: HostRuntime,
+    input: &[u8],
+    status: u8,
+    out: &str,
+    err: &str,
+) -> Result<(), Fail> {
+    let got = ended(rt.alloc(), &["replay"], input, WHOLE)?;
+    assert_eq!(rt; got.status, status, "{out}{err}");
+    assert_eq!(rt; got.out.bytes(), out.as_bytes(), "{out}");
+    assert_eq!(rt; got.err.bytes(), err.as_bytes(), "{err}");
+    Ok(())
+}
+
+#[test]
+fn scripts_give_their_journals(rt: HostRuntime) -> Result<(), Fail> {
+    for (input, journal) in [
+        (FIRST, FIRST_JOURNAL),
+        (
+            "lispheap 1\nheap 1\nthread\nthread\nend\n",
+            "0 end\n1 end\ndone 2\n",
+        ),
+        (
+            "lispheap 1\nheap 1\nthread\nget s1 s0 0\ncons b0 s0 s0\nget s1 b0 2\nend\n",
+            "0 get s1 s0 0 -> !type\n0 open cons 0 1\n0 cons b0 s0 s0 -> #0 @0\n0 get s1 b0 2 -> !range\n0 end\ndone 5\n",
+        ),
+        (
+            "lispheap 1\nheap 2\nthread\nfix s0 1\nthread\nfix s0 2\nschedule 1*2 0\nend\n",
+            "1 fix s0 2 -> ok\n1 end\n0 fix s0 1 -> ok\n0 end\ndone 4\n",
+        ),
+    ] {
+        assert_replay(rt, input.as_bytes(), 0, journal, "")?;
+    }
+    Ok(())
+}
+
+#[test]
+fn the_257th_cons_of_a_page_is_refused(rt: HostRuntime) -> Result<(), Fail> {
+    let alloc = rt.alloc();
+    let mut input = String::from_str(alloc, "lispheap 1\nheap 1\nthread\n")?;
+    let mut journal = String::from_str(alloc, "0 open cons 0 1\n")?;
+    for k in 0..256u32 {
+        input.push_str("cons b0 b1 b1\n")?;
+        let at = k * 2;
+        journal.push_str(format!(in alloc; "0 cons b0 b1 b1 -> #{k} @{at}\n")?.as_str())?;
+    }
+    input.push_str("cons b0 b1 b1\nend\n")?;
+    journal.push_str("0 cons b0 b1 b1 -> !exhausted\n0 end\ndone 259\n")?;
+    assert_replay(rt, input.as_bytes(), 0, journal.as_str(), "")
+}
+
+#[test]
+fn bad_lines_and_limits_are_said_by_number(rt: HostRuntime) -> Result<(), Fail> {
+    for (input, status, said) in [
+        (
+            "lispheap 1\nheap 1\nthread\nfi",
+            3,
+            "lispheap: line 4: word\n",
+        ),
+        (
+            "lispheap 1\nheap 1\nthread\n",
+            3,
+            "lispheap: line 4: missing\n",
+        ),
+        ("", 3, "lispheap: line 1: missing\n"),
+        ("thread\n", 3, "lispheap: line 1: order\n"),
+        ("lispheap 1\nheap\n", 3, "lispheap: line 2: fields\n"),
+        ("lispheap 1\nheap x\n", 3, "lispheap: line 2: form\n"),
+        (
+            "lispheap 1\nheap 1\nthread\nfix s0 4611686018427387904\nend\n",
+            3,
+            "lispheap: line 4: range\n",
+        ),
+        (
+            "lispheap 1\nheap 1025\nthread\nend\n",
+            6,
+            "lispheap: limit pages 1024\n",
+        ),
+        (
+            "lispheap 1\nheap 1\nthread\nthread\nthread\nthread\nthread\nthread\nthread\nthread\nthread\nend\n",
+            6,
+            "lispheap: limit threads 8\n",
+        ),
+    ] {
+        assert_replay(rt, input.as_bytes(), status, "", said)?;
+    }
+    Ok(())
+}
+
+#[test]
+fn too_many_bytes_are_no_script(rt: HostRuntime) -> Result<(), Fail> {
+    let input = vec![in rt.alloc(); b'\n'; 4_194_305]?;
+    assert_replay(rt, &input, 6, "", "lispheap: limit bytes 4194304\n")?;
+    let met = &input[..4_194_304];
+    assert_replay(rt, met, 3, "", "lispheap: line 4194305: missing\n")
+}
+
+#[test]
+fn other_words_are_no_form(rt: HostRuntime) -> Result<(), Fail> {
+    let lists: [&[&str]; 5] = [
+        &[],
+        &["run"],
+        &["run", "--fast"],
+        &["replay", "replay"],
+        &["Replay"],
+    ];
+    for words in lists {
+        let got = ended(rt.alloc(), words, FIRST.as_bytes(), WHOLE)?;
+        assert_eq!(rt; got.status, 2);
+        assert_eq!(rt; got.out.bytes(), b"");
+        assert_eq!(rt; got.err.bytes(), b"lispheap: usage\n");
+    }
+    Ok(())
+}
+
+#[test]
+fn streams_that_fail_stop_the_program(rt: HostRuntime) -> Result<(), Fail> {
+    for (streams, status, out, err) in [
+        (
+            Streams {
+                most: 10,
+                source_fails: &[],
+                out_fails: &[1],
+            },
+            5,
+            "0 fix s0 5",
+            "lispheap: write fault\n",
+        ),
+        (
+            Streams {
+                most: 10,
+                source_fails: &[0],
+                out_fails: &[],
+            },
+            4,
+            "",
+            "lispheap: read fault\n",
+        ),
+        (
+            Streams {
+                most: 1,
+                source_fails: &[],
+                out_fails: &[],
+            },
+            0,
+            FIRST_JOURNAL,
+            "",
+        ),
+    ] {
+        let got = ended(rt.alloc(), &["replay"], FIRST.as_bytes(), streams)?;
+        assert_eq!(rt; got.status, status);
+        assert_eq!(rt; got.out.bytes(), out.as_bytes());
+        assert_eq!(rt; got.err.bytes(), err.as_bytes());
+    }
+    Ok(())
+}
