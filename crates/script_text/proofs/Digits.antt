@@ -1,9 +1,9 @@
 -- Digits: which bytes they are, and a loop that adds them up to a number that stops at its end.
-use Rattle.std.proofs.Common.{◌≡◌, ℕ, ◌+◌, ◌-◌, ◌*◌, ◌<◌, ◌≤◌, ◌⊎◌, min, Bool, true, false, List, length, take, get_or, refl, sym, ap, ◌∙◌, inl, inr, arith, ◌&&◌, ltb}
+use Rattle.std.proofs.Common.{◌≡◌, ℕ, ◌+◌, ◌-◌, ◌*◌, ◌<◌, ◌≤◌, ◌⊎◌, min, Bool, true, false, List, length, take, get_or, ◌∙◌, inl, inr, arith}
 use Rattle.std.specs.Char.{is_digit, digit_value}
 use Rattle.std.specs.List.{list_all}
 use Rattle.std.specs.Str.Parse.{digits_value}
-use Rattle.std.proofs.lemmas.Bool.{lt-ltb, le-ltb, and_from, cases_Bool, ltb-true}
+use Rattle.std.proofs.lemmas.Bool.{lt-ltb, and_from, cases_Bool, ltb-true}
 use Rattle.std.proofs.lemmas.Int.Digits.{digits_value_more}
 use Rattle.std.proofs.lemmas.List.Folds.{list_all_more, list_all_at}
 use Rattle.std.proofs.lemmas.Str.{digit_value_digit}

@@ -1,14 +1,14 @@
 -- The values of a line's fields have their forms and ranges.
-use Rattle.std.proofs.Common.{◌≡◌, ℕ, ℤ, pos, negsuc, ◌+◌, ◌≤◌, ◌<◌, ◌^◌, zero, suc, Bool, true, false, cond, eqb, ltb, leb, ◌&&◌, ◌||◌, not, List, [], ◌∷◌, ◌++◌, length, replicate, get_or, Option, Some, None, Result, Ok, Err, refl, sym, ap, ◌∙◌, subst, arith, inl, inr}
+use Rattle.std.proofs.Common.{◌≡◌, ℕ, ◌<◌, Bool, true, false, cond, eqb, ltb, ◌&&◌, ◌||◌, not, List, [], ◌∷◌, ◌++◌, length, replicate, get_or, Option, Some, None, Result, Ok, Err, refl, sym, subst, arith}
 use Rattle.std.specs.Prelude.{ok_or, option_map, option_and_then}
 use Rattle.std.specs.List.{slice_split, All}
-use Rattle.std.proofs.lemmas.Bool.{cases_Bool, and_parts, ltb-true, leb-true}
+use Rattle.std.proofs.lemmas.Bool.{and_parts, ltb-true}
 use Rattle.std.proofs.lemmas.List.Elements.{All-nil, All-cons, All-replicate, All-append}
 use Rattle.heap_terms.specs.declared.cells.Cell.{Cell}
 use Rattle.heap_terms.specs.declared.cells.Cell.TheVariants.{Stack, Exact, Shared}
 use Rattle.heap_terms.specs.declared.faults.Why.{Why}
 use Rattle.heap_terms.specs.declared.faults.Why.TheVariants.{Fields, Form, Range}
-use Rattle.heap_terms.specs.Fields.{◌>>=◌, number_of, signed_of, cell_of, raw_cell_of, raw_word_of, weakness_of, cell_number, ranged, between, turns_of, turns_of_parts}
+use Rattle.heap_terms.specs.Fields.{◌>>=◌, number_of, signed_of, cell_of, cell_number, ranged, between, turns_of, turns_of_parts}
 use Rattle.heap_terms.specs.Grammar.{FieldForm, LispCell, RawCell, RawWord, WeaknessWord, Number, Signed, FieldValue, CellOf, NumberOf, SignedOf, Statement, Row, value_of, values_of, as_cell, as_number, as_signed, said_by, turns_of_all}
 use Rattle.heap_terms.specs.Valid.{IsCell}
 

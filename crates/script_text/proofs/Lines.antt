@@ -1,10 +1,10 @@
 -- Lines and fields, byte by byte.
-use Rattle.std.proofs.Common.{◌≡◌, ℕ, ◌+◌, ◌-◌, ◌<◌, ◌≤◌, Bool, true, false, cond, eqb, not, ◌&&◌, ◌||◌, List, [], ◌∷◌, ◌++◌, length, take, drop, get_or, refl, sym, ap, ◌∙◌, inl, inr, ◌⊎◌, arith, zero, suc, add-one, drop-cons}
+use Rattle.std.proofs.Common.{◌≡◌, ℕ, ◌+◌, ◌-◌, ◌<◌, ◌≤◌, Bool, true, false, eqb, not, ◌&&◌, ◌||◌, List, [], ◌∷◌, ◌++◌, length, take, drop, get_or, refl, sym, ap, ◌∙◌, inl, inr, ◌⊎◌, arith, zero, suc, add-one, drop-cons}
 use Rattle.std.proofs.Math.ListN.{drop_of_length-le}
 use Rattle.std.specs.List.{slice_split, onto_first, list_all}
 use Rattle.std.specs.Str.Lines.{lines, lines_of_parts, strip_carriage_return}
 use Rattle.std.proofs.lemmas.Bool.{cases_Bool, or_parts, or_cases, and_cases, and_parts, not-true, eqb-true, ne_eqb, false≢true}
-use Rattle.heap_terms.specs.Fields.{is_blank, has_bytes, fields_of}
+use Rattle.heap_terms.specs.Fields.{is_blank, fields_of}
 use Rattle.script_text.specs.Left.{first_or_empty, all_but_first, fields_left, lines_after, SameLeft, Taken, NoneLeft, starts_with_lf, ends_field, field_len, starts_with_blank}
 
 abbrev is_lf : ℕ → Bool

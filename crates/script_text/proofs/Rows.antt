@@ -1,5 +1,5 @@
 -- A command's row of the table, and the fields that are read before they are counted.
-use Rattle.std.proofs.Common.{◌≡◌, ℕ, ◌+◌, ◌-◌, ◌≤◌, suc, Bool, true, false, eqb, List, [], ◌∷◌, length, drop, Option, Some, None, Result, Ok, Err, refl, sym, ap, ◌∙◌, arith, inl, inr}
+use Rattle.std.proofs.Common.{◌≡◌, ℕ, ◌≤◌, List, [], ◌∷◌, length, drop, Result, Ok, Err, refl, sym, ap, ◌∙◌, arith}
 use Rattle.std.specs.Prelude.{codes}
 use Rattle.std.proofs.lemmas.Bool.{ne_eqb, eq-eqb}
 use Rattle.std.proofs.lemmas.List.{length-drop}
@@ -8,7 +8,7 @@ use Rattle.heap_terms.specs.declared.commands.Command.TheVariants as commands
 use Rattle.heap_terms.specs.declared.faults.Why.{Why}
 use Rattle.heap_terms.specs.declared.faults.Why.TheVariants.{Fields}
 use Rattle.heap_terms.specs.Fields.{◌>>=◌, signed_of, ranged, is_fixnum}
-use Rattle.heap_terms.specs.Grammar.{FieldForm, LispCell, Number, Signed, FieldValue, CellOf, NumberOf, SignedOf, Statement, Does, Row, Small, value_of, values_of, rows, command, cell, number, signed, said_by, statement_of}
+use Rattle.heap_terms.specs.Grammar.{FieldForm, LispCell, Signed, FieldValue, CellOf, NumberOf, SignedOf, Statement, Does, Row, Small, value_of, values_of, rows, command, cell, number, signed, said_by, statement_of}
 use Rattle.script_text.specs.declared.words.Name.{Name}
 use Rattle.script_text.specs.declared.words.Name.TheVariants as names
 use Rattle.script_text.specs.Commands.{in_first, but_first, a_cell, an_index, front_command, field_count, does}

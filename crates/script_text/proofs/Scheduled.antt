@@ -1,12 +1,12 @@
 -- A line of a schedule, judged.
-use Rattle.std.proofs.Common.{◌≡◌, ℕ, ◌+◌, ◌≤◌, ◌<◌, suc, true, false, ltb, List, [], ◌∷◌, ◌++◌, length, Option, Some, None, Result, Ok, Err, refl, sym, ap, ◌∙◌, arith, length-append}
+use Rattle.std.proofs.Common.{◌≡◌, ℕ, ◌+◌, ◌≤◌, ◌<◌, true, false, ltb, List, [], ◌∷◌, ◌++◌, length, Result, Ok, Err, refl, sym, ap, ◌∙◌, arith, length-append}
 use Rattle.std.proofs.lemmas.Bool.{le-ltb, lt-ltb}
 use Rattle.heap_terms.specs.declared.faults.Why.{Why}
 use Rattle.heap_terms.specs.declared.faults.Why.TheVariants.{Fields}
 use Rattle.heap_terms.specs.declared.faults.LimitKind.TheVariants as limits
 use Rattle.heap_terms.specs.Fields.{◌>>=◌}
 use Rattle.heap_terms.specs.Grammar.{Turns, schedule_of, turns_of_all}
-use Rattle.heap_terms.specs.Reading.{SoFar, Refused, Bad, Over, InSchedule, within_limits}
+use Rattle.heap_terms.specs.Reading.{SoFar, Bad, Over, InSchedule, within_limits}
 use Rattle.script_text.specs.Answers.{turns_behind}
 
 -- a schedule without fields

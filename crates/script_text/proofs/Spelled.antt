@@ -1,18 +1,14 @@
 -- Fields in their usual spelling.
-use Rattle.std.proofs.Common.{◌≡◌, ℕ, ◌+◌, ◌-◌, ◌*◌, ◌≤◌, ◌<◌, zero, suc, Bool, true, false, cond, eqb, ltb, leb, ◌&&◌, ◌||◌, not, List, [], ◌∷◌, length, take, drop, get_or, Option, Some, None, Result, Ok, Err, refl, sym, ap, ◌∙◌, subst, arith, inl, inr}
-use Rattle.std.specs.Prelude.{ok_or, option_map, option_and_then}
+use Rattle.std.proofs.Common.{◌≡◌, ℕ, ◌+◌, ◌-◌, ◌*◌, ◌≤◌, ◌<◌, suc, true, false, eqb, ltb, leb, ◌||◌, List, [], ◌∷◌, length, take, drop, get_or, Some, Ok, Err, refl, sym, ap, ◌∙◌, subst, arith, inl, inr}
 use Rattle.std.specs.Char.{is_digit, digit_value}
-use Rattle.std.specs.List.{list_all}
-use Rattle.std.specs.Str.Parse.{digits_value}
 use Rattle.std.proofs.lemmas.Bool.{ne_eqb, or_cases, eqb-true, lt-ltb, le-ltb, le-leb}
 use Rattle.std.proofs.lemmas.Str.{digit_value_digit}
 use Rattle.heap_terms.specs.declared.cells.Cell.{Cell}
 use Rattle.heap_terms.specs.declared.cells.Cell.TheVariants.{Stack, Exact, Shared}
-use Rattle.heap_terms.specs.declared.faults.Why.{Why}
-use Rattle.heap_terms.specs.declared.faults.Why.TheVariants.{Form, Range}
-use Rattle.heap_terms.specs.Fields.{◌>>=◌, fields_of, is_blank, is_numeral, number_of, cell_number, cell_of, ranged, at_most, turns_of, turns_of_parts}
+use Rattle.heap_terms.specs.declared.faults.Why.TheVariants.{Range}
+use Rattle.heap_terms.specs.Fields.{fields_of, is_blank, number_of, cell_number, cell_of, turns_of}
 use Rattle.script_text.specs.Commands.{an_index}
-use Rattle.script_text.specs.Left.{ends_field, field_len, fields_left, SameLeft, Taken}
+use Rattle.script_text.specs.Left.{ends_field, field_len, fields_left, Taken}
 use Rattle.script_text.proofs.Digits.{digit_yes}
 use Rattle.script_text.proofs.Lines.{lines-lf, SameLeft-blank, Taken-field, field_len-none, field_len-cons}
 

@@ -1,9 +1,9 @@
 -- A field of a schedule, cut at its first `*`.
-use Rattle.std.proofs.Common.{◌≡◌, ℕ, ◌+◌, ◌<◌, ◌≤◌, Bool, true, false, cond, eqb, ltb, not, List, [], ◌∷◌, length, take, drop, get_or, Option, Some, None, Result, Ok, Err, refl, sym, ap, ◌∙◌, inl, inr, arith, zero, suc}
+use Rattle.std.proofs.Common.{◌≡◌, ℕ, ◌+◌, ◌<◌, ◌≤◌, Bool, false, eqb, List, [], ◌∷◌, length, take, drop, Option, Some, None, Result, Err, refl, sym, ap, ◌∙◌, inl, inr, arith}
 use Rattle.std.specs.Prelude.{position, ok_or, nat_le, ◌&&◌}
 use Rattle.std.specs.List.{position_or_len, slice_split, onto_first, list_all}
 use Rattle.std.proofs.lemmas.Bool.{cases_Bool, cases_lt, and_right, eqb-true, lt-ltb, le-ltb}
-use Rattle.std.proofs.lemmas.List.Splits.{slice_split_first, slice_split-cons_no, length-slice_split}
+use Rattle.std.proofs.lemmas.List.Splits.{slice_split_first}
 use Rattle.std.specs.Char.{is_digit}
 use Rattle.heap_terms.specs.Fields.{◌>>=◌, number_of, turns_of, turns_of_parts}
 use Rattle.heap_terms.specs.declared.faults.Why.{Why}

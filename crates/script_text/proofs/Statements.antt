@@ -1,11 +1,11 @@
 -- The rows of the lines that are no commands.
-use Rattle.std.proofs.Common.{◌≡◌, ℕ, ◌-◌, ◌^◌, suc, true, false, eqb, min, List, [], ◌∷◌, length, Option, Some, None, Result, Ok, Err, refl, sym, ap, ◌∙◌, arith}
-use Rattle.std.specs.Prelude.{codes, ok_or, IfOk, IfErr}
+use Rattle.std.proofs.Common.{◌≡◌, ℕ, ◌-◌, ◌^◌, suc, false, eqb, min, List, [], ◌∷◌, length, Result, Ok, Err, refl, ◌∙◌, arith}
+use Rattle.std.specs.Prelude.{codes, IfOk, IfErr}
 use Rattle.std.proofs.lemmas.Bool.{ne_eqb}
 use Rattle.heap_terms.specs.declared.faults.Why.{Why}
-use Rattle.heap_terms.specs.declared.faults.Why.TheVariants.{Fields, Form, Range}
+use Rattle.heap_terms.specs.declared.faults.Why.TheVariants.{Fields}
 use Rattle.heap_terms.specs.Fields.{◌>>=◌, number_of, ranged, between, at_least}
-use Rattle.heap_terms.specs.Grammar.{FieldForm, Number, FieldValue, NumberOf, Statement, Version, HeapOf, NewThread, EndOfScript, schedule_of, Row, row, value_of, number, said_by, rows, statement_of}
+use Rattle.heap_terms.specs.Grammar.{FieldForm, Number, FieldValue, Statement, Version, HeapOf, NewThread, EndOfScript, schedule_of, row, value_of, number, said_by, rows, statement_of}
 use Rattle.script_text.specs.declared.words.Keyword.{Keyword}
 use Rattle.script_text.specs.declared.words.Keyword.TheVariants as keywords
 use Rattle.script_text.specs.Answers.{only_field}

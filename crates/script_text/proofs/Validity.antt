@@ -1,9 +1,9 @@
 -- A program that is read is valid.
-use Rattle.std.proofs.Common.{◌≡◌, ℕ, ℤ, pos, negsuc, ◌+◌, ◌≤◌, ◌<◌, ◌^◌, suc, Bool, true, false, cond, eqb, ltb, not, ◌&&◌, ◌||◌, List, [], ◌∷◌, ◌++◌, length, Option, Some, None, Result, Ok, Err, refl, sym, ap, ◌∙◌, subst, arith, inl, inr, length-append}
+use Rattle.std.proofs.Common.{◌≡◌, ℕ, ℤ, pos, negsuc, ◌+◌, ◌≤◌, ◌<◌, ◌^◌, Bool, true, false, cond, eqb, ltb, not, List, [], ◌∷◌, ◌++◌, length, Option, Some, None, Result, Ok, Err, refl, sym, ◌∙◌, subst, arith, inl, inr, length-append}
 use Rattle.std.specs.Prelude.{codes, bytes_eq, sum_by, count_by, slice_index}
 use Rattle.std.specs.List.{All}
 use Rattle.std.specs.Str.Lines.{lines}
-use Rattle.std.proofs.lemmas.Bool.{cases_Bool, or_cases, and_parts, ltb-true, ltb-false, leb-true, false≢true, not-false}
+use Rattle.std.proofs.lemmas.Bool.{or_cases, ltb-true, ltb-false, leb-true, false≢true}
 use Rattle.std.proofs.lemmas.List.Elements.{All-nil, All-cons, All-head, All-tail, All-push, All-append, All-weaker}
 use Rattle.std.proofs.lemmas.List.Sums.{sum_by-append}
 use Rattle.std.proofs.lemmas.Slice.Eq.{bytes_eq-Decides}
@@ -12,13 +12,13 @@ use Rattle.heap_terms.specs.declared.commands.Command.TheVariants as commands
 use Rattle.heap_terms.specs.declared.faults.LimitKind.{LimitKind}
 use Rattle.heap_terms.specs.declared.faults.LimitKind.TheVariants as limits
 use Rattle.heap_terms.specs.declared.faults.Why.{Why}
-use Rattle.heap_terms.specs.declared.faults.Why.TheVariants.{Word, Order, Fields, Missing}
+use Rattle.heap_terms.specs.declared.faults.Why.TheVariants.{Word, Order}
 use Rattle.heap_terms.specs.declared.programs.Program.{Program}
-use Rattle.heap_terms.specs.Fields.{◌>>=◌, between, at_least, at_most, is_fixnum, fields_of}
-use Rattle.heap_terms.specs.Grammar.{FieldForm, LispCell, Number, Signed, FieldValue, Statement, Version, HeapOf, AutoOf, NewThread, Does, Turns, EndOfScript, Row, Small, row, command, cell, number, signed, said_by, schedule_of, statement_of, turns_of_all, rows}
-use Rattle.heap_terms.specs.Reading.{Place, AtStart, AfterVersion, AfterHeap, AfterAuto, InThread, InSchedule, AfterEnd, SoFar, nothing_read, Refused, Bad, Over, may_follow, place_after, onto_last, with_statement, unless_above, limit_of_command, limit_passed, unless_passed, within_limits, judged_word, judged, Fault, LineFault, fault_at, finished_at, finished, read_lines, read_script}
+use Rattle.heap_terms.specs.Fields.{◌>>=◌, between, at_least, is_fixnum, fields_of}
+use Rattle.heap_terms.specs.Grammar.{LispCell, Number, Signed, FieldValue, Statement, Version, HeapOf, AutoOf, NewThread, Does, Turns, EndOfScript, Row, Small, row, command, cell, number, signed, said_by, schedule_of, statement_of, turns_of_all, rows}
+use Rattle.heap_terms.specs.Reading.{Place, AtStart, AfterVersion, AfterHeap, AfterAuto, InThread, InSchedule, AfterEnd, SoFar, nothing_read, Refused, Bad, may_follow, place_after, onto_last, with_statement, unless_above, limit_of_command, limit_passed, unless_passed, within_limits, judged_word, judged, Fault, fault_at, finished_at, read_lines, read_script}
 use Rattle.heap_terms.specs.Valid.{IsCommand, IsFixnum, IsValid, NamesYoungest, is_built, is_gc}
-use Rattle.script_text.proofs.Fitting.{Fits, FitAll, said_fits, turns_below}
+use Rattle.script_text.proofs.Fitting.{FitAll, said_fits, turns_below}
 use Rattle.script_text.proofs.Sums.{length-onto_last, commands-onto_last, gcs-onto_last}
 
 -- ---- what a line says

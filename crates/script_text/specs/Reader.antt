@@ -1,15 +1,7 @@
 -- The state of the reader, as the definition of reading has it, and what its methods answer.
-use Rattle.std.specs.Prelude.{◌≡◌, ℕ, ◌+◌, ◌<◌, ◌≤◌, List, [], ◌∷◌, ◌++◌, length, Result, Ok, Err, sum_by, count_by, ◌^◌}
-use Rattle.heap_terms.specs.declared.faults.Why.{Why}
-use Rattle.heap_terms.specs.declared.faults.Why.TheVariants.{Fields}
-use Rattle.heap_terms.specs.declared.faults.LimitKind.{LimitKind}
-use Rattle.heap_terms.specs.declared.faults.LimitKind.TheVariants as limits
-use Rattle.heap_terms.specs.Fields.{◌>>=◌}
-use Rattle.heap_terms.specs.Grammar.{turns_of_all}
-use Rattle.heap_terms.specs.Reading.{SoFar, Refused, Bad, Over}
+use Rattle.std.specs.Prelude.{◌≡◌, ◌≤◌, length, sum_by, count_by}
+use Rattle.heap_terms.specs.Reading.{SoFar}
 use Rattle.heap_terms.specs.Valid.{is_gc}
-use Rattle.script_text.specs.declared.faults.LineFault.{LineFault}
-use Rattle.script_text.specs.declared.faults.LineFault.TheVariants as faults
 use Rattle.script_text.specs.declared.reader.Reader.TheInside.{Inside}
 use Rattle.script_text.specs.Words.{place_of}
 

@@ -1,11 +1,11 @@
-use Rattle.std.proofs.Common.{◌≡◌, ◌+◌, ◌≤◌, refl, List, [], length, Ok, Err, sym, ap, ◌∙◌, arith}
+use Rattle.std.proofs.Common.{◌≡◌, refl, [], length, sym, ap, ◌∙◌, arith}
 use Rattle.std.specs.Str.Lines.{lines}
 use Rattle.std.proofs.lemmas.Bool.{false≢true}
-use Rattle.heap_terms.specs.Reading.{nothing_read, read_lines, read_script}
+use Rattle.heap_terms.specs.Reading.{read_script}
 use Rattle.script_text.specs.Left.{lines_after}
 use Rattle.script_text.proofs.Lines.{length-lines}
 use Rattle.script_text.proofs.Validity.{read_valid}
-use Rattle.script_text.proofs.Script.{read_next, read_refused, read_all, refusal, lines_fewer}
+use Rattle.script_text.proofs.Script.{read_next, read_all, refusal, lines_fewer}
 use Rattle.script_text.proofs.parse.Goals as goal
 
 pub loop-left-init : goal.loop-left-init

@@ -1,4 +1,3 @@
-use Rattle.std.proofs.Common.{◌≡◌, Ok, Err, refl, sym, ◌∙◌}
 use Rattle.std.proofs.lemmas.Result.{err_from_is_err_and}
 use Rattle.script_text.specs.Left.{fields_left}
 use Rattle.script_text.proofs.Statements.{heap_good, heap_bad_result, heap_fields}

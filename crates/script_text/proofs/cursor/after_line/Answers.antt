@@ -1,4 +1,4 @@
-use Rattle.std.proofs.Common.{◌≡◌, ◌∙◌, ap, arith}
+use Rattle.std.proofs.Common.{◌∙◌, ap}
 use Rattle.std.specs.Str.Lines.{lines}
 use Rattle.script_text.proofs.Lines.{line_ends, line_past}
 use Rattle.script_text.proofs.cursor.after_line.Goals as goal

@@ -1,4 +1,4 @@
-use Rattle.std.proofs.Common.{◌<◌, length, sym, arith}
+use Rattle.std.proofs.Common.{sym, arith}
 use Rattle.script_text.proofs.Lines.{blank_more}
 use Rattle.script_text.proofs.cursor.without_blanks.Goals as goal
 

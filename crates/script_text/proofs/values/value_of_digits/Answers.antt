@@ -1,4 +1,4 @@
-use Rattle.std.proofs.Common.{◌<◌, ◌≤◌, ◌≡◌, ◌+◌, ◌-◌, ◌^◌, min, ◌*◌, length, get_or, arith}
+use Rattle.std.proofs.Common.{◌<◌, ◌≤◌, ◌-◌, ◌^◌, length, get_or, arith}
 use Rattle.script_text.proofs.Digits.{adds_digit, all_digits_more}
 use Rattle.script_text.proofs.values.value_of_digits.Goals as goal
 

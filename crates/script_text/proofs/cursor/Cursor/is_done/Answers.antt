@@ -1,4 +1,4 @@
-use Rattle.std.proofs.Common.{◌≡◌, List, ℕ, [], refl, ap, sym, ◌∙◌, eq-eqb, length, true}
+use Rattle.std.proofs.Common.{ap, sym, ◌∙◌, eq-eqb, length}
 use Rattle.std.specs.Str.Lines.{lines}
 use Rattle.std.proofs.lemmas.Bool.{eqb-true}
 use Rattle.std.proofs.lemmas.List.{nil_from_length}

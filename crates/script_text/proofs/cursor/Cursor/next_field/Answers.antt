@@ -1,4 +1,4 @@
-use Rattle.std.proofs.Common.{◌≡◌, ◌≤◌, refl, ap, arith, length, rules}
+use Rattle.std.proofs.Common.{arith}
 use Rattle.script_text.proofs.Lines.{field_len-le, none_at, taken_at}
 use Rattle.script_text.proofs.cursor.Cursor.next_field.Goals as goal
 
