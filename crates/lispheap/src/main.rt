@@ -28,10 +28,20 @@ fn run(rt: &HostRuntime) -> u8 {
     lispheap_still(alloc, &words, &mut source, &mut out, &mut err)
 }
 
-// The words after the program's name.
+// The words after the program's name. Where one of them is no text the answer is no words, which are
+// no form that the program knows either.
 fn words(rt: &HostRuntime) -> io::Result<Vec<String>> {
     let mut words = Vec::new(rt.alloc());
-    for word in env::args(rt)?.skip(1) {
+    let all = match env::args(rt) {
+        Ok(all) => all,
+        Err(error) => {
+            return match error.kind() {
+                io::ErrorKind::InvalidData => Ok(words),
+                _ => Err(error),
+            };
+        }
+    };
+    for word in all.skip(1) {
         words.push(word)?;
     }
     Ok(words)
