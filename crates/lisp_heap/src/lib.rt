@@ -10,6 +10,8 @@ mod outcome;
 mod parcels;
 mod reading;
 mod states;
+#[cfg(test)]
+mod tests;
 mod world;
 
 pub use allocating::Lent;
