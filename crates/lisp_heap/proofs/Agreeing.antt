@@ -1,11 +1,11 @@
 -- When a parcel that agreed still agrees.
-use Rattle.std.proofs.Common.{◌≡◌, ◌≢◌, ℕ, ◌+◌, ◌*◌, ◌<◌, List, length, map, subst, ap, ◌∙◌, sym, refl, arith, Option, Some, None, option_map, get_or, set, inl, inr}
+use Rattle.std.proofs.Common.{◌≡◌, ℕ, List, map, ap, ◌∙◌, sym, option_map, get_or, inl, inr}
 use Rattle.std.proofs.Math.ListN.{get_or-map}
 use Rattle.heap_terms.specs.declared.pages.Entry.{Entry}
 use Rattle.heap_terms.specs.Heap.{NamedHeap, Thread, thread_at, with_thread, ended_thread, fresh_thread}
 use Rattle.heap_terms.proofs.Places.{set_cases}
 use Rattle.lisp_heap.specs.Agreement.{Agrees, small_out, run_out}
-use Rattle.lisp_heap.specs.Parcels.{ParcelView, place_of}
+use Rattle.lisp_heap.specs.Parcels.{ParcelView}
 use Rattle.lisp_heap.specs.State.{state_of}
 use Rattle.lisp_heap.specs.declared.states.ThreadState.{ThreadState}
 

@@ -1,5 +1,5 @@
 -- The words of the cells go on standing for the heap.
-use Rattle.std.proofs.Common.{◌≡◌, ◌≢◌, ℕ, ◌+◌, ◌*◌, ◌<◌, ◌≤◌, List, [], ◌∷◌, ◌++◌, length, map, refl, sym, ◌∙◌, subst, ap, arith, get_or, set, length-set, get_or-set_same, get_or-set_other, inl, inr, Option}
+use Rattle.std.proofs.Common.{◌≡◌, ◌≢◌, ℕ, ◌*◌, ◌<◌, List, length, refl, sym, ◌∙◌, subst, ap, arith, get_or, set, length-set, get_or-set_same, get_or-set_other, inl, inr, Option}
 use Rattle.std.proofs.lemmas.Bool.{cases_eq}
 use Rattle.std.specs.Prelude.{slice_index, slice_index_or}
 use Rattle.heap_terms.specs.declared.cells.Cell.{Cell}

@@ -1,5 +1,5 @@
 -- Which commands a valid program has at a thread's place.
-use Rattle.std.proofs.Common.{◌≡◌, ◌≢◌, ℕ, ℤ, ◌+◌, ◌<◌, length, subst, ap, ◌∙◌, sym, refl, Option, Some, None, Bool, true, false}
+use Rattle.std.proofs.Common.{◌≡◌, ℕ, ℤ, refl, Some}
 use Rattle.heap_terms.specs.declared.cells.Cell.{Cell}
 use Rattle.heap_terms.specs.declared.commands.Command.{Command}
 use Rattle.heap_terms.specs.declared.commands.Command.TheVariants as commands
@@ -7,7 +7,7 @@ use Rattle.heap_terms.specs.declared.pages.Next.TheVariants as nexts
 use Rattle.heap_terms.specs.declared.programs.Program.{Program}
 use Rattle.heap_terms.specs.Heap.{NamedHeap, thread_at}
 use Rattle.heap_terms.specs.Histories.{command_at, next}
-use Rattle.heap_terms.specs.Regions.{wish_of, Wish, Nothing, Make}
+use Rattle.heap_terms.specs.Regions.{wish_of, Nothing}
 use Rattle.heap_terms.specs.Valid.{IsValid}
 use Rattle.heap_terms.proofs.Happenings.{next_parts, next_with_command, simple_for}
 use Rattle.heap_terms.proofs.Scripts.{script_built, IsBuilt}

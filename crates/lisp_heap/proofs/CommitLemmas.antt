@@ -1,13 +1,12 @@
 -- The commit of a cons: its two words and its label are written, and all stands for the heap with one object more.
-use Rattle.std.proofs.Common.{◌≡◌, ◌≢◌, ℕ, zero, suc, ◌+◌, ◌*◌, ◌/◌, ◌%◌, ◌<◌, ◌≤◌, List, [], ◌∷◌, ◌++◌, length, refl, sym, ◌∙◌, subst, ap, arith, get_or, set, length-set, get_or-set_same, get_or-set_other, inl, inr, Option, Some, None, ◌⊎◌}
-use Rattle.std.proofs.lemmas.Bool.{cases_eq}
+use Rattle.std.proofs.Common.{◌≡◌, ◌≢◌, ℕ, ◌+◌, ◌*◌, ◌/◌, ◌<◌, ◌≤◌, List, [], ◌∷◌, ◌++◌, length, refl, sym, ◌∙◌, subst, ap, arith, set, length-set, get_or-set_same, get_or-set_other, inl, inr, Option, Some, None, ◌⊎◌}
 use Rattle.std.proofs.lemmas.List.{get_or_push, get_or_append_left}
-use Rattle.std.specs.Prelude.{slice_index, IfSome}
+use Rattle.std.specs.Prelude.{slice_index}
 use Rattle.heap_terms.specs.declared.cells.Value.{Value}
 use Rattle.heap_terms.specs.declared.programs.Program.{Program}
 use Rattle.heap_terms.specs.Heap.{NamedHeap, object_at}
 use Rattle.heap_terms.specs.Layout.{page_words}
-use Rattle.heap_terms.specs.Objects.{Object, Contents, ConsOf, words_of_object}
+use Rattle.heap_terms.specs.Objects.{Object, ConsOf, words_of_object}
 use Rattle.heap_terms.specs.Stands.{WordsStand, AreAt}
 use Rattle.heap_terms.specs.WellFormed.{IsWellFormed, IsLiving, AreApart, IsPlaced}
 use Rattle.heap_terms.specs.Words.{word_of, spelling}

@@ -1,10 +1,8 @@
 -- A parcel goes on agreeing where neither its owner's regions nor their pages changed.
-use Rattle.std.proofs.Common.{◌≡◌, ◌≢◌, ℕ, ◌+◌, ◌*◌, ◌<◌, ◌≤◌, List, length, map, subst, ap, ◌∙◌, sym, refl, arith, Option, Some, None, option_map}
-use Rattle.heap_terms.specs.declared.kinds.PageType.{PageType}
+use Rattle.std.proofs.Common.{◌≡◌, ℕ, ◌+◌, ◌*◌, List, ap, ◌∙◌, sym, refl, Option, Some, None, option_map}
 use Rattle.heap_terms.specs.declared.kinds.PageType.TheVariants as types
 use Rattle.heap_terms.specs.declared.pages.Entry.{Entry}
-use Rattle.heap_terms.specs.declared.pages.Entry.TheVariants.{Free, Used}
-use Rattle.heap_terms.specs.Heap.{NamedHeap, Thread, thread_at, entry_at, fill_of, open_page}
+use Rattle.heap_terms.specs.Heap.{NamedHeap, thread_at, entry_at, fill_of}
 use Rattle.heap_terms.proofs.Others.{HasSameEntries}
 use Rattle.lisp_heap.specs.Agreement.{Agrees, small_out, run_out, run_pages_of}
 use Rattle.lisp_heap.specs.Parcels.{ParcelView, place_of}

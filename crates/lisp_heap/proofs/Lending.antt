@@ -1,24 +1,22 @@
 -- What a parcel's owner wants next, and where it goes.
-use Rattle.std.proofs.Common.{◌≡◌, ◌≢◌, ℕ, ◌+◌, ◌*◌, ◌<◌, ◌≤◌, length, subst, ap, ◌∙◌, sym, refl, arith, Option, Some, None, IsSome}
+use Rattle.std.proofs.Common.{◌≡◌, ℕ, ◌+◌, ◌*◌, ◌<◌, length, subst, ap, ◌∙◌, sym, refl, Option, Some, None, IsSome}
 use Rattle.std.specs.Prelude.{IsSomeAnd}
 use Rattle.heap_terms.specs.declared.commands.Command.{Command}
 use Rattle.heap_terms.specs.declared.kinds.Kind.{Kind}
 use Rattle.heap_terms.specs.declared.kinds.Kind.TheVariants as kinds
-use Rattle.heap_terms.specs.declared.kinds.PageType.TheVariants as types
 use Rattle.heap_terms.specs.declared.pages.Next.{Next}
 use Rattle.heap_terms.specs.declared.pages.Next.TheVariants as nexts
-use Rattle.heap_terms.specs.Heap.{NamedHeap, thread_at, entry_at, fill_of}
+use Rattle.heap_terms.specs.Heap.{fill_of}
 use Rattle.heap_terms.specs.Histories.{command_at, next, wish_at, wished_size}
 use Rattle.heap_terms.specs.Layout.{page_words}
 use Rattle.heap_terms.specs.Regions.{IsRun, HasNoRun, Wish, pages_needed, place_for}
 use Rattle.heap_terms.proofs.Committing.{has_page, place_small}
 use Rattle.heap_terms.proofs.Places.{IsSome-value}
-use Rattle.lisp_heap.specs.Agreement.{Agrees, HasRunFor, IsBuiltFor, Lends}
-use Rattle.lisp_heap.specs.Parcels.{ParcelView, RegionView, HasBuilt, place_of}
+use Rattle.lisp_heap.specs.Agreement.{Agrees, IsBuiltFor, Lends}
+use Rattle.lisp_heap.specs.Parcels.{ParcelView, RegionView, HasBuilt}
 use Rattle.lisp_heap.specs.Sound.{IsSound, view_of}
 use Rattle.lisp_heap.specs.View.{View, heap_of, next_of}
 use Rattle.lisp_heap.specs.declared.allocating.Lent.TheVariants as lents
-use Rattle.lisp_heap.specs.declared.parcels.Making.{Making}
 use Rattle.lisp_heap.specs.declared.world.World.TheInside.{Inside}
 use Rattle.lisp_heap.proofs.Nexts.{cons_region}
 use Rattle.lisp_heap.proofs.Soundness.{heap, well_formed}

@@ -1,29 +1,26 @@
 -- What a thread of a well-formed heap does next, and that what it builds has room in a parcel that agrees.
-use Rattle.std.proofs.Common.{◌≡◌, ◌≢◌, ℕ, ◌+◌, ◌*◌, ◌-◌, ◌<◌, ◌≤◌, List, length, subst, ap, ◌∙◌, sym, refl, arith, Option, Some, None, Bool, true, false, option_map, inl, inr, get_or}
-use Rattle.std.proofs.lemmas.Bool.{cases_Bool, cases_lt}
+use Rattle.std.proofs.Common.{◌≡◌, ℕ, ◌+◌, ◌*◌, ◌<◌, ◌≤◌, List, length, subst, ap, ◌∙◌, sym, refl, arith, Option, Some, None, Bool, true, false, option_map, inl, inr}
+use Rattle.std.proofs.lemmas.Bool.{cases_lt}
 use Rattle.std.proofs.lemmas.List.{get_or_past}
-use Rattle.std.specs.Prelude.{if◌then◌else◌, ◌==◌, IsSomeAnd, nat_le, IfSome}
-use Rattle.std.specs.Option.{ForSome}
+use Rattle.std.specs.Prelude.{if◌then◌else◌, ◌==◌, IsSomeAnd}
 use Rattle.heap_terms.specs.declared.commands.Command.{Command}
 use Rattle.heap_terms.specs.declared.kinds.Kind.TheVariants as kinds
 use Rattle.heap_terms.specs.declared.kinds.PageType.{PageType}
-use Rattle.heap_terms.specs.declared.kinds.PageType.TheVariants as types
 use Rattle.heap_terms.specs.declared.pages.Entry.{Entry}
-use Rattle.heap_terms.specs.declared.pages.Entry.TheVariants.{Free, Used}
-use Rattle.heap_terms.specs.declared.pages.Next.{Next}
+use Rattle.heap_terms.specs.declared.pages.Entry.TheVariants.{Free}
 use Rattle.heap_terms.specs.declared.pages.Next.TheVariants as nexts
 use Rattle.heap_terms.specs.declared.programs.Program.{Program}
 use Rattle.heap_terms.specs.Heap.{NamedHeap, Thread, thread_at, entry_at, fill_of, open_page}
 use Rattle.heap_terms.specs.Histories.{command_at, next, next_command, next_for, next_unless_due, due}
 use Rattle.heap_terms.specs.Layout.{page_words}
-use Rattle.heap_terms.specs.Regions.{Wish, Nothing, Make, wish_of, has_room, page_has_room, entry_has_room}
+use Rattle.heap_terms.specs.Regions.{Wish, wish_of, has_room}
 use Rattle.heap_terms.specs.Valid.{IsValid}
 use Rattle.heap_terms.specs.WellFormed.{IsWellFormed, IsOpenPage}
 use Rattle.heap_terms.proofs.Committing.{room_page}
-use Rattle.heap_terms.proofs.Scripts.{script_wish, script_command}
+use Rattle.heap_terms.proofs.Scripts.{script_wish}
 use Rattle.heap_terms.proofs.Threading.{open_page_used}
 use Rattle.lisp_heap.specs.Agreement.{Agrees, CanBuild, small_out}
-use Rattle.lisp_heap.specs.Parcels.{ParcelView, RegionView, place_of, Fits, HasRoom, IsMaking, room_of}
+use Rattle.lisp_heap.specs.Parcels.{ParcelView, RegionView, place_of, Fits, room_of}
 
 pub next_done : (p : Program) (a : NamedHeap) (t : ℕ) → (thread_at a t).ended ≡ true → nexts.Done ≡ next p a t
 unfolding next

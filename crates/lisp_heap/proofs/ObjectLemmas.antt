@@ -1,14 +1,14 @@
 -- The words of values stay while fields of objects change and objects are added.
-use Rattle.std.proofs.Common.{◌≡◌, ◌≢◌, ℕ, zero, suc, ◌+◌, ◌*◌, ◌<◌, ◌≤◌, List, [], ◌∷◌, ◌++◌, length, refl, sym, ◌∙◌, subst, ap, ap₂, arith, get_or, set, get_or-set_same, get_or-set_other, inl, inr, Option, Some, None}
-use Rattle.std.proofs.lemmas.Bool.{cases_eq, cases_lt}
+use Rattle.std.proofs.Common.{◌≡◌, ℕ, ◌<◌, List, [], ◌∷◌, ◌++◌, length, refl, sym, ◌∙◌, ap, inl, inr, Option, Some, None}
+use Rattle.std.proofs.lemmas.Bool.{cases_lt}
 use Rattle.std.proofs.lemmas.List.{get_or_past, get_or_append_left}
 use Rattle.std.specs.Prelude.{IsSome}
 use Rattle.heap_terms.specs.declared.cells.Value.{Value}
 use Rattle.heap_terms.specs.declared.cells.Value.TheVariants.{Fix, Nil, Unbound, Ref}
 use Rattle.heap_terms.specs.Heap.{object_at}
 use Rattle.heap_terms.specs.Layout.{reference_word}
-use Rattle.heap_terms.specs.Objects.{Object, kind_of}
-use Rattle.heap_terms.specs.Simple.{with_field_at, object_with_field, with_field}
+use Rattle.heap_terms.specs.Objects.{Object}
+use Rattle.heap_terms.specs.Simple.{with_field_at, object_with_field}
 use Rattle.heap_terms.specs.WellFormed.{IsLiving}
 use Rattle.heap_terms.specs.Words.{word_of, word_of_object}
 use Rattle.heap_terms.proofs.Effects.{with_field-kind}

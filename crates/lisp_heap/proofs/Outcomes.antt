@@ -1,23 +1,22 @@
 -- What the commands that allocate nothing answer and change, for a cons and for what is none.
-use Rattle.std.proofs.Common.{◌≡◌, ℕ, ◌+◌, ◌<◌, ◌≤◌, List, [], ◌∷◌, length, refl, sym, ◌∙◌, subst, ap, arith, get_or, Option, Some, None, Bool, true, false, ℤ, to_z-of_z, SFits, FitsSigned, w64, pos, negsuc}
+use Rattle.std.proofs.Common.{◌≡◌, ℕ, ◌+◌, ◌<◌, ◌≤◌, List, [], ◌∷◌, length, refl, sym, ◌∙◌, ap, arith, get_or, Option, Some, None, Bool, ℤ, FitsSigned, w64, pos, negsuc}
 use Rattle.std.proofs.lemmas.Bool.{lt-ltb, le-ltb}
-use Rattle.std.specs.Prelude.{slice_index_or, nat_lt, if◌then◌else◌}
+use Rattle.std.specs.Prelude.{if◌then◌else◌}
 use Rattle.heap_terms.specs.declared.answers.Answer.{Answer}
 use Rattle.heap_terms.specs.declared.answers.Answer.TheVariants as answers
 use Rattle.heap_terms.specs.declared.answers.Refusal.TheVariants.{NotType, OutOfRange}
 use Rattle.heap_terms.specs.declared.cells.Cell.{Cell}
 use Rattle.heap_terms.specs.declared.cells.Value.{Value}
 use Rattle.heap_terms.specs.declared.cells.Value.TheVariants as values
-use Rattle.heap_terms.specs.declared.commands.Command.{Command}
 use Rattle.heap_terms.specs.declared.commands.Command.TheVariants as commands
 use Rattle.heap_terms.specs.Cells.{cell_value, with_cell}
-use Rattle.heap_terms.specs.Heap.{NamedHeap, object_at, zero_value}
-use Rattle.heap_terms.specs.Objects.{Object, Contents, ConsOf, fields_of}
+use Rattle.heap_terms.specs.Heap.{NamedHeap, zero_value}
+use Rattle.heap_terms.specs.Objects.{Object, fields_of}
 use Rattle.heap_terms.specs.Simple.{answer_of, effect_of, refusing, changing, fields_at, fields_of_object, with_field_at}
 use Rattle.heap_terms.specs.Valid.{IsCell, IsFixnum}
 use Rattle.heap_terms.specs.Words.{word_of}
 use Rattle.heap_terms.specs.Layout.{fixnum_word}
-use Rattle.lisp_heap.specs.Outcome.{IsOutcome, PutsInCell, PutsInCons}
+use Rattle.lisp_heap.specs.Outcome.{IsOutcome}
 use Rattle.lisp_heap.specs.Reading.{IsCons}
 use Rattle.lisp_heap.specs.declared.outcome.Change.TheVariants as changes
 

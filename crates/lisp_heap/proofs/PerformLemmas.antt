@@ -1,12 +1,11 @@
 -- A command that allocates nothing: after its one write all stands for the heap after it.
-use Rattle.std.proofs.Common.{◌≡◌, ◌≢◌, ℕ, ◌+◌, ◌*◌, ◌/◌, ◌<◌, List, [], ◌∷◌, ◌++◌, length, map, refl, sym, ◌∙◌, subst, ap, arith, get_or, set, length-set, inl, inr, Option, Some, None}
-use Rattle.std.specs.Prelude.{slice_index, slice_set, IfSome}
+use Rattle.std.proofs.Common.{◌≡◌, ℕ, ◌+◌, ◌/◌, ◌<◌, List, length, refl, sym, ◌∙◌, subst, ap, arith, get_or, set, length-set, inl, inr, Option, Some, None}
+use Rattle.std.specs.Prelude.{slice_index}
 use Rattle.heap_terms.specs.declared.cells.Value.{Value}
 use Rattle.heap_terms.specs.declared.cells.Value.TheVariants as values
 use Rattle.heap_terms.specs.declared.programs.Program.{Program}
 use Rattle.heap_terms.specs.Cells.{with_cell}
 use Rattle.heap_terms.specs.Heap.{NamedHeap, Thread, thread_at, with_thread, object_at, zero_value}
-use Rattle.heap_terms.specs.Histories.{advance}
 use Rattle.heap_terms.specs.Objects.{Object}
 use Rattle.heap_terms.specs.Simple.{with_field_at, object_with_field, with_field}
 use Rattle.heap_terms.specs.Stands.{WordsStand}
@@ -14,13 +13,13 @@ use Rattle.heap_terms.specs.WellFormed.{IsWellFormed}
 use Rattle.heap_terms.specs.Words.{word_of}
 use Rattle.heap_terms.proofs.Places.{IfSome-at, IfSome-from, set_cases}
 use Rattle.lisp_heap.specs.CellsView.{CellsView}
-use Rattle.lisp_heap.specs.Outcome.{Makes, PutsInCell, PutsInCons, cells_after, words_after}
+use Rattle.lisp_heap.specs.Outcome.{Makes, cells_after, words_after}
 use Rattle.lisp_heap.specs.Standing.{Parts, Holds, CellsStand, LabelsStand}
 use Rattle.lisp_heap.specs.State.{state_of}
 use Rattle.lisp_heap.specs.declared.outcome.Change.{Change}
 use Rattle.lisp_heap.specs.declared.outcome.Change.TheVariants as changes
 use Rattle.lisp_heap.specs.declared.states.ThreadState.{ThreadState}
-use Rattle.lisp_heap.proofs.CellLemmas.{CellsStand-with_thread, CellsStand-with_cell, CellsStand-objects, KeepsWords}
+use Rattle.lisp_heap.proofs.CellLemmas.{CellsStand-with_thread, CellsStand-with_cell, CellsStand-objects}
 use Rattle.lisp_heap.proofs.ObjectLemmas.{word_of-with_field_at}
 use Rattle.lisp_heap.proofs.PutLemmas.{WordsStand-put}
 use Rattle.lisp_heap.proofs.Unchanged.{WordsStand-same, LabelsStand-same, with_cell-objects, with_cell-pages, with_cell-states, states_set}

@@ -1,6 +1,5 @@
 -- A cons is committed.
-use Rattle.std.proofs.Common.{◌≡◌, ◌≢◌, ℕ, ◌+◌, ◌*◌, ◌/◌, ◌%◌, ◌<◌, ◌≤◌, ◌^◌, List, [], ◌∷◌, ◌++◌, length, map, subst, ap, ap₂, ◌∙◌, sym, refl, arith, Option, Some, None, option_map, get_or, set, length-set, length-append, get_or-set_same, get_or-set_other, inl, inr, false}
-use Rattle.std.specs.Prelude.{slice_index, slice_index_or}
+use Rattle.std.proofs.Common.{◌≡◌, ◌≢◌, ℕ, ◌+◌, ◌*◌, ◌/◌, ◌%◌, ◌<◌, ◌≤◌, ◌^◌, List, [], ◌∷◌, ◌++◌, length, map, subst, ap, ap₂, ◌∙◌, sym, refl, arith, Option, Some, None, option_map, get_or, set, length-set, length-append, get_or-set_same, get_or-set_other, false}
 use Rattle.heap_terms.specs.declared.answers.Answer.{Answer}
 use Rattle.heap_terms.specs.declared.answers.Answer.TheVariants as answers
 use Rattle.heap_terms.specs.declared.cells.Cell.{Cell}
@@ -17,18 +16,17 @@ use Rattle.heap_terms.specs.declared.pages.Entry.TheVariants.{Free, Used}
 use Rattle.heap_terms.specs.declared.pages.Next.{Next}
 use Rattle.heap_terms.specs.declared.pages.Next.TheVariants as nexts
 use Rattle.heap_terms.specs.Cells.{with_cell, cell_value}
-use Rattle.heap_terms.specs.Heap.{NamedHeap, Thread, thread_at, with_thread, entry_at, fill_of, open_page, object_at, zero_value}
+use Rattle.heap_terms.specs.Heap.{NamedHeap, thread_at, entry_at, fill_of, open_page, zero_value}
 use Rattle.heap_terms.specs.Histories.{IsNext, IsAnswer, after, after_command, advance, command_at, next}
 use Rattle.heap_terms.specs.Layout.{page_words, reference_word, size_of}
-use Rattle.heap_terms.specs.Objects.{Object, ConsOf, kind_of}
-use Rattle.heap_terms.specs.Regions.{committed, place_for, is_free, with_fill, has_room}
+use Rattle.heap_terms.specs.Objects.{Object}
+use Rattle.heap_terms.specs.Regions.{place_for, is_free, with_fill}
 use Rattle.heap_terms.specs.Stands.{WordsStand}
 use Rattle.heap_terms.specs.Valid.{IsCell}
 use Rattle.heap_terms.specs.WellFormed.{IsWellFormed, IsLiving, IsOpenRunPage, IsPlaced}
 use Rattle.heap_terms.specs.Words.{word_of, word_of_object}
 use Rattle.heap_terms.proofs.Committing.{HasPage, has_page, place_small, committed-small, new_object, heap_with}
 use Rattle.heap_terms.proofs.Counting.{commits_few}
-use Rattle.heap_terms.proofs.Others.{HasSameEntries}
 use Rattle.heap_terms.proofs.Scripts.{script_command}
 use Rattle.heap_terms.proofs.Standing.{after-well_formed}
 use Rattle.heap_terms.proofs.Threading.{open_run_used}
@@ -36,7 +34,7 @@ use Rattle.std.proofs.lemmas.List.{get_or_push}
 use Rattle.lisp_heap.specs.Agreement.{Agrees, small_out}
 use Rattle.lisp_heap.specs.CellsView.{with_cell_word, CellsView}
 use Rattle.lisp_heap.specs.Parcels.{ParcelView, RegionView, place_of, with_accepted, cons_accepted}
-use Rattle.lisp_heap.specs.Sound.{IsSound, parts_of}
+use Rattle.lisp_heap.specs.Sound.{IsSound}
 use Rattle.lisp_heap.specs.Standing.{Parts, Holds, CellsStand, LabelsStand}
 use Rattle.lisp_heap.specs.State.{state_of, advanced, fresh_state}
 use Rattle.lisp_heap.specs.declared.states.ThreadState.{ThreadState}
@@ -47,8 +45,8 @@ use Rattle.lisp_heap.proofs.CommitLemmas.{WordsStand-commit, LabelsStand-commit,
 use Rattle.lisp_heap.proofs.Elsewhere.{Agrees-beside, Agrees-entries}
 use Rattle.lisp_heap.proofs.Nexts.{cons_region}
 use Rattle.lisp_heap.proofs.ObjectLemmas.{word_of-push}
-use Rattle.lisp_heap.proofs.Soundness.{heap, well_formed, conses, living_in, cells_room}
-use Rattle.lisp_heap.proofs.Unchanged.{with_cell-objects, with_cell-pages, with_cell-states, with_cell-threads, state_read, states_set}
+use Rattle.lisp_heap.proofs.Soundness.{heap, well_formed, conses, living_in}
+use Rattle.lisp_heap.proofs.Unchanged.{with_cell-objects, with_cell-pages, with_cell-states, state_read, states_set}
 use Rattle.lisp_heap.proofs.Wishing.{builds_room}
 use Rattle.lisp_heap.proofs.WordReading.{cell_living_in}
 

@@ -1,6 +1,5 @@
 -- `!exhausted`: the command is answered, and nothing else changes.
-use Rattle.std.proofs.Common.{◌≡◌, ◌≢◌, ℕ, ◌+◌, ◌<◌, length, map, subst, ap, ◌∙◌, sym, refl, arith, Option, Some, None, get_or}
-use Rattle.heap_terms.specs.declared.answers.Answer.{Answer}
+use Rattle.std.proofs.Common.{◌≡◌, ℕ, ◌+◌, ◌<◌, length, subst, ap, sym, refl, arith, Some, get_or}
 use Rattle.heap_terms.specs.declared.answers.Answer.TheVariants as answers
 use Rattle.heap_terms.specs.declared.answers.Refusal.TheVariants.{Exhausted}
 use Rattle.heap_terms.specs.declared.commands.Command.{Command}

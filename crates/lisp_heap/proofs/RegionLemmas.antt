@@ -1,5 +1,5 @@
 -- A region of conses is opened.
-use Rattle.std.proofs.Common.{◌≡◌, ◌≢◌, ℕ, ◌+◌, ◌*◌, ◌<◌, ◌≤◌, List, length, map, subst, ap, ◌∙◌, sym, refl, arith, Option, Some, None, option_map, get_or, inl, inr}
+use Rattle.std.proofs.Common.{◌≡◌, ◌≢◌, ℕ, ◌+◌, ◌*◌, ◌<◌, List, length, subst, ap, ◌∙◌, sym, refl, arith, Option, Some, option_map, get_or, inl, inr}
 use Rattle.heap_terms.specs.declared.commands.Command.{Command}
 use Rattle.heap_terms.specs.declared.events.Event.TheVariants.{Opened}
 use Rattle.heap_terms.specs.declared.kinds.PageType.{PageType}
@@ -8,17 +8,17 @@ use Rattle.heap_terms.specs.declared.pages.Entry.{Entry}
 use Rattle.heap_terms.specs.declared.pages.Entry.TheVariants.{Free, Used}
 use Rattle.heap_terms.specs.declared.pages.Next.TheVariants as nexts
 use Rattle.heap_terms.specs.declared.programs.Program.{Program}
-use Rattle.heap_terms.specs.Heap.{NamedHeap, Thread, thread_at, with_thread, with_open_page, entry_at, fill_of, open_page}
+use Rattle.heap_terms.specs.Heap.{NamedHeap, Thread, thread_at, with_thread, entry_at, fill_of}
 use Rattle.heap_terms.specs.Histories.{IsNext, IsOpening, after, command_at, next, wish_at}
 use Rattle.heap_terms.specs.Layout.{page_words}
-use Rattle.heap_terms.specs.Regions.{IsRun, IsLowestRun, Wish, opened, wish_of, with_run}
+use Rattle.heap_terms.specs.Regions.{IsRun, IsLowestRun, Wish, opened, with_run}
 use Rattle.heap_terms.specs.WellFormed.{IsWellFormed, IsOpenPage, IsOpenRunPage}
 use Rattle.heap_terms.proofs.Opening.{run_length, run_entry, run_cases}
 use Rattle.heap_terms.proofs.Others.{HasSameEntries}
 use Rattle.heap_terms.proofs.Standing.{after-well_formed}
 use Rattle.heap_terms.proofs.Threading.{open_page_used, open_run_used}
 use Rattle.lisp_heap.specs.Agreement.{Agrees, small_out}
-use Rattle.lisp_heap.specs.Parcels.{ParcelView, place_of, with_cons}
+use Rattle.lisp_heap.specs.Parcels.{ParcelView, with_cons}
 use Rattle.lisp_heap.specs.Sound.{IsSound, parts_of}
 use Rattle.lisp_heap.specs.Standing.{Holds}
 use Rattle.lisp_heap.specs.State.{state_of, with_cons_open, fresh_state}

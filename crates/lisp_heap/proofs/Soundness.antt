@@ -1,19 +1,16 @@
 -- What is known of the heap for which a sound World stands.
-use Rattle.std.proofs.Common.{◌≡◌, ℕ, ◌+◌, ◌*◌, ◌<◌, ◌≤◌, List, length, map, refl, sym, ◌∙◌, subst, ap, arith, Option, Some, None}
+use Rattle.std.proofs.Common.{◌≡◌, ℕ, ◌+◌, ◌*◌, ◌<◌, ◌≤◌, List, length, ◌∙◌, subst, ap, arith, Option}
 use Rattle.std.proofs.Math.ListN.{length-map}
 use Rattle.std.specs.Prelude.{IfSome}
-use Rattle.heap_terms.specs.declared.cells.Value.{Value}
 use Rattle.heap_terms.specs.Heap.{NamedHeap, object_at}
 use Rattle.heap_terms.specs.Histories.{replay}
-use Rattle.heap_terms.specs.Objects.{Object, Contents, ConsOf}
-use Rattle.heap_terms.specs.WellFormed.{IsWellFormed, IsLiving, HoldsLiving}
+use Rattle.heap_terms.specs.Objects.{Object, Contents}
+use Rattle.heap_terms.specs.WellFormed.{IsWellFormed, HoldsLiving}
 use Rattle.heap_terms.proofs.Conses.{IsCons, only_conses, cons_contents}
 use Rattle.heap_terms.proofs.Places.{IfSome-at}
 use Rattle.heap_terms.proofs.Standing.{replay-well_formed}
-use Rattle.lisp_heap.specs.Sound.{IsSound, parts_of, view_of}
-use Rattle.lisp_heap.specs.Standing.{Holds}
+use Rattle.lisp_heap.specs.Sound.{IsSound}
 use Rattle.lisp_heap.specs.State.{state_of}
-use Rattle.lisp_heap.specs.View.{heap_of}
 use Rattle.lisp_heap.specs.declared.world.World.TheInside.{Inside}
 use Rattle.lisp_heap.proofs.CommitLemmas.{HoldLiving}
 use Rattle.lisp_heap.proofs.WordLemmas.{AreConses}

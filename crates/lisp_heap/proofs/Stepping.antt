@@ -1,18 +1,18 @@
 -- A World after one event more.
-use Rattle.std.proofs.Common.{◌≡◌, ◌≢◌, ℕ, ◌+◌, ◌*◌, ◌<◌, ◌≤◌, ◌^◌, List, [], ◌∷◌, ◌++◌, length, map, subst, ap, ◌∙◌, sym, refl, arith, Option, Some, None, get_or, set, Bool, true, false}
+use Rattle.std.proofs.Common.{◌≡◌, ℕ, ◌+◌, ◌<◌, ◌≤◌, ◌^◌, List, [], ◌∷◌, ◌++◌, length, map, subst, ap, ◌∙◌, sym, refl, arith, Option, Some, None, get_or}
 use Rattle.std.proofs.lemmas.List.Sums.{get_or-le-sum_by}
-use Rattle.std.proofs.lemmas.Option.{get_or_from_slice_get, slice_get_within}
-use Rattle.std.specs.Prelude.{slice_get, IsSome, slice_index_or}
+use Rattle.std.proofs.lemmas.Option.{get_or_from_slice_get}
+use Rattle.std.specs.Prelude.{slice_get, IsSome}
 use Rattle.heap_terms.specs.declared.answers.Answer.{Answer}
 use Rattle.heap_terms.specs.declared.commands.Command.{Command}
 use Rattle.heap_terms.specs.declared.events.Event.{Event}
-use Rattle.heap_terms.specs.declared.events.Event.TheVariants.{Did, Opened, Ended}
+use Rattle.heap_terms.specs.declared.events.Event.TheVariants.{Did}
 use Rattle.heap_terms.specs.declared.pages.Next.{Next}
 use Rattle.heap_terms.specs.declared.pages.Next.TheVariants as nexts
 use Rattle.heap_terms.specs.declared.programs.Program.{Program}
-use Rattle.heap_terms.specs.Heap.{NamedHeap, Thread, thread_at, with_thread}
+use Rattle.heap_terms.specs.Heap.{NamedHeap, thread_at}
 use Rattle.heap_terms.specs.Histories.{IsNext, IsAnswer, after, after_command, advance, command_at, next, next_command, script_of, replay, thread_of, Lawful}
-use Rattle.heap_terms.specs.Simple.{answer_of, effect_of}
+use Rattle.heap_terms.specs.Simple.{effect_of}
 use Rattle.heap_terms.specs.Valid.{IsValid}
 use Rattle.heap_terms.specs.WellFormed.{IsWellFormed}
 use Rattle.heap_terms.proofs.Appending.{Lawful-push, replay-push}
@@ -21,7 +21,7 @@ use Rattle.heap_terms.proofs.Scripts.{script_place, script_command}
 use Rattle.heap_terms.proofs.Standing.{effect-kept}
 use Rattle.lisp_heap.specs.Agreement.{Agrees}
 use Rattle.lisp_heap.specs.Events.{Happens}
-use Rattle.lisp_heap.specs.Outcome.{IsOutcome, Makes, CanChange, cells_after, words_after}
+use Rattle.lisp_heap.specs.Outcome.{IsOutcome, Makes, CanChange}
 use Rattle.lisp_heap.specs.Parcels.{ParcelView}
 use Rattle.lisp_heap.specs.Sound.{IsSound, view_of, parts_of}
 use Rattle.lisp_heap.specs.Standing.{Parts, Holds}
@@ -34,8 +34,8 @@ use Rattle.lisp_heap.specs.declared.world.World.TheInside.{Inside}
 use Rattle.lisp_heap.proofs.Agreeing.{Agrees-same, Agrees-thread, states_at}
 use Rattle.lisp_heap.proofs.PerformLemmas.{Holds-change, Holds-thread, parts_after}
 use Rattle.lisp_heap.proofs.PutLemmas.{placed_at}
-use Rattle.lisp_heap.proofs.Soundness.{heap, well_formed, conses, states_length, cells_room}
-use Rattle.lisp_heap.proofs.Unchanged.{with_cell-objects, with_cell-pages, with_cell-states, state_read}
+use Rattle.lisp_heap.proofs.Soundness.{heap, well_formed, conses, cells_room}
+use Rattle.lisp_heap.proofs.Unchanged.{with_cell-pages, with_cell-states, state_read}
 use Rattle.lisp_heap.proofs.WordLemmas.{cons_words}
 use Rattle.heap_terms.specs.Objects.{words_of_object}
 

@@ -1,5 +1,5 @@
 -- What a command of a valid program wishes for, where its thread opens a region or builds an object.
-use Rattle.std.proofs.Common.{◌≡◌, ◌≢◌, ℕ, ◌+◌, ◌<◌, length, subst, ap, ◌∙◌, sym, refl, Option, Some, None, Bool, true, false, inl, inr}
+use Rattle.std.proofs.Common.{◌≡◌, ◌≢◌, ℕ, subst, sym, refl, Option, Some, None, true, inl, inr}
 use Rattle.std.specs.Prelude.{IsSome}
 use Rattle.heap_terms.specs.declared.commands.Command.{Command}
 use Rattle.heap_terms.specs.declared.commands.Command.TheVariants as commands
@@ -11,11 +11,10 @@ use Rattle.heap_terms.specs.declared.pages.Next.TheVariants as nexts
 use Rattle.heap_terms.specs.declared.programs.Program.{Program}
 use Rattle.heap_terms.specs.Heap.{NamedHeap, thread_at}
 use Rattle.heap_terms.specs.Histories.{command_at, next, next_for, next_command}
-use Rattle.heap_terms.specs.Layout.{size_of}
-use Rattle.heap_terms.specs.Regions.{wish_of, Wish, Nothing, Make, has_room}
+use Rattle.heap_terms.specs.Regions.{wish_of, Wish, Make, has_room}
 use Rattle.heap_terms.specs.Valid.{IsValid}
 use Rattle.heap_terms.proofs.Happenings.{next_parts, next_with_command, builds_for}
-use Rattle.heap_terms.proofs.Scripts.{script_wish, script_built, IsBuilt, only_cons_built}
+use Rattle.heap_terms.proofs.Scripts.{script_wish, IsBuilt, only_cons_built}
 
 -- a thread that opens a region wants a cons
 pub opens_cons : (p : Program) (a : NamedHeap) (t : ℕ) (c : Command) → IsValid p → command_at p a t ≡ Some c → next p a t ≡ nexts.Open →

@@ -1,19 +1,15 @@
 -- The words of the space go on standing for the heap.
-use Rattle.std.proofs.Common.{◌≡◌, ◌≢◌, ℕ, zero, suc, ◌+◌, ◌*◌, ◌/◌, ◌%◌, ◌<◌, ◌≤◌, List, [], ◌∷◌, ◌++◌, length, refl, sym, ◌∙◌, subst, ap, ap₂, arith, get_or, set, length-set, get_or-set_same, get_or-set_other, inl, inr, Option, Some, None, ◌⊎◌}
-use Rattle.std.proofs.lemmas.Bool.{cases_eq, cases_lt}
-use Rattle.std.specs.Prelude.{slice_index, IfSome}
+use Rattle.std.proofs.Common.{◌≡◌, ◌≢◌, ℕ, zero, suc, ◌+◌, ◌*◌, ◌<◌, ◌≤◌, List, [], ◌∷◌, sym, subst, ap, arith, set, get_or-set_other, inl, inr, Option, Some, ◌⊎◌}
+use Rattle.std.specs.Prelude.{slice_index}
 use Rattle.heap_terms.specs.declared.cells.Value.{Value}
-use Rattle.heap_terms.specs.declared.cells.Value.TheVariants.{Ref}
 use Rattle.heap_terms.specs.declared.programs.Program.{Program}
 use Rattle.heap_terms.specs.Heap.{NamedHeap, object_at, entry_at, fill_of}
 use Rattle.heap_terms.specs.Layout.{page_words}
 use Rattle.heap_terms.specs.Objects.{Object, Contents, ConsOf, words_of_object}
-use Rattle.heap_terms.specs.Simple.{with_field_at, object_with_field, with_field}
 use Rattle.heap_terms.specs.Stands.{WordsStand, AreAt}
-use Rattle.heap_terms.specs.WellFormed.{IsWellFormed, IsLiving, AreApart, IsPlaced, IsOwned}
+use Rattle.heap_terms.specs.WellFormed.{IsWellFormed, IsOwned}
 use Rattle.heap_terms.specs.Words.{word_of, spelling}
-use Rattle.heap_terms.proofs.Places.{IfSome-at, IfSome-from}
-use Rattle.lisp_heap.proofs.ObjectLemmas.{word_of-with_field_at, word_of-push}
+use Rattle.heap_terms.proofs.Places.{IfSome-at}
 
 -- each object is a cons: so far no other kind is built
 abbrev pub AreConses : List (Option Object) → Type 0

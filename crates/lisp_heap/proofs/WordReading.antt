@@ -1,24 +1,23 @@
 -- What the words of a sound World are read as.
-use Rattle.std.proofs.Common.{◌≡◌, ◌≢◌, ℕ, ◌+◌, ◌*◌, ◌/◌, ◌%◌, ◌-◌, ◌^◌, ◌<◌, ◌≤◌, List, length, map, refl, sym, ◌∙◌, subst, ap, arith, get_or, Option, Some, None, Bool, true, false, pos, negsuc, ℤ, IfSome, IsSome, IsNone}
+use Rattle.std.proofs.Common.{◌≡◌, ℕ, ◌+◌, ◌*◌, ◌/◌, ◌%◌, ◌^◌, ◌<◌, ◌≤◌, List, length, refl, sym, ◌∙◌, subst, ap, arith, get_or, Some, None, pos, negsuc, ℤ}
 use Rattle.std.proofs.lemmas.List.{get_or_default}
 use Rattle.std.proofs.lemmas.Option.{slice_get_past, slice_get_read}
-use Rattle.std.specs.Prelude.{slice_index, slice_index_or, slice_get, ◌↔◌}
+use Rattle.std.specs.Prelude.{slice_index, slice_get}
 use Rattle.heap_terms.specs.declared.cells.Cell.{Cell}
 use Rattle.heap_terms.specs.declared.cells.Value.{Value}
 use Rattle.heap_terms.specs.declared.cells.Value.TheVariants.{Fix, Nil, Unbound, Ref}
 use Rattle.heap_terms.specs.declared.commands.Command.{Command}
-use Rattle.heap_terms.specs.declared.kinds.Kind.TheVariants as kinds
 use Rattle.heap_terms.specs.Cells.{cell_value}
 use Rattle.heap_terms.specs.declared.kinds.PageType.{PageType}
 use Rattle.heap_terms.specs.declared.pages.Entry.{Entry}
 use Rattle.heap_terms.specs.declared.pages.Entry.TheVariants.{Used}
-use Rattle.heap_terms.specs.Heap.{NamedHeap, thread_at, object_at, entry_at, fill_of}
+use Rattle.heap_terms.specs.Heap.{thread_at, object_at, entry_at, fill_of}
 use Rattle.heap_terms.specs.Histories.{command_at, script_of}
-use Rattle.heap_terms.specs.Layout.{base_address, fixnum_word, reference_word, page_words, nil_word}
+use Rattle.heap_terms.specs.Layout.{base_address, fixnum_word, reference_word}
 use Rattle.heap_terms.specs.Objects.{Object, Contents, ConsOf, kind_of, words_of_object}
-use Rattle.heap_terms.specs.Simple.{fields_at, fields_of_object}
+use Rattle.heap_terms.specs.Simple.{fields_at}
 use Rattle.heap_terms.specs.Valid.{IsCell, IsFixnum}
-use Rattle.heap_terms.specs.WellFormed.{IsLiving, IsWellFormed}
+use Rattle.heap_terms.specs.WellFormed.{IsLiving}
 use Rattle.heap_terms.specs.Words.{word_of, word_of_object}
 use Rattle.heap_terms.proofs.Living.{cell_living}
 use Rattle.heap_terms.proofs.Places.{IfSome-at, IsSome-value}
@@ -26,7 +25,7 @@ use Rattle.lisp_words.specs.Tagged.{IsTagged, tag_bits}
 use Rattle.lisp_words.specs.declared.pointers.Lowtag.{Lowtag}
 use Rattle.lisp_words.specs.declared.pointers.Lowtag.TheVariants as lowtags
 use Rattle.lisp_heap.specs.CellsView.{cell_word}
-use Rattle.lisp_heap.specs.Reading.{IsWord, IsCons, IsConsAt}
+use Rattle.lisp_heap.specs.Reading.{IsWord, IsCons}
 use Rattle.lisp_heap.specs.Sound.{IsSound, view_of}
 use Rattle.lisp_heap.specs.State.{state_of}
 use Rattle.lisp_heap.specs.View.{View, heap_of}
@@ -34,9 +33,9 @@ use Rattle.lisp_heap.specs.declared.states.ThreadState.{ThreadState}
 use Rattle.lisp_heap.specs.declared.world.World.TheInside.{Inside}
 use Rattle.lisp_heap.proofs.CellLemmas.{CellsStand-read}
 use Rattle.lisp_heap.proofs.PutLemmas.{placed_at}
-use Rattle.lisp_heap.proofs.Soundness.{heap, well_formed, conses, living_in, states_length}
+use Rattle.lisp_heap.proofs.Soundness.{heap, well_formed, conses, living_in}
 use Rattle.lisp_heap.proofs.Unchanged.{state_read}
-use Rattle.lisp_heap.proofs.WordLemmas.{AreConses, cons_at, cons_words}
+use Rattle.lisp_heap.proofs.WordLemmas.{cons_at, cons_words}
 
 -- the threads of a view are those of the fields
 pub thread_in : (s : Inside) (w : View) → view_of s ≡ w → (t : ℕ) → t < length w.program.threads → t < length s.program.threads

@@ -1,6 +1,5 @@
 -- When a parcel has just the regions that are out for its owner.
-use Rattle.std.specs.Prelude.{◌≡◌, ◌≢◌, ℕ, ◌+◌, ◌*◌, ◌<◌, Option, Some, None, IfOk, OnOk, option_map, List, length, slice_index_or}
-use Rattle.heap_terms.specs.declared.kinds.Kind.{Kind}
+use Rattle.std.specs.Prelude.{◌≡◌, ◌≢◌, ℕ, ◌+◌, ◌*◌, ◌<◌, option_map, List, length, slice_index_or}
 use Rattle.heap_terms.specs.declared.pages.Entry.{Entry}
 use Rattle.heap_terms.specs.declared.pages.Entry.TheVariants.{Free, Used}
 use Rattle.heap_terms.specs.declared.pages.Next.{Next}
@@ -11,7 +10,7 @@ use Rattle.heap_terms.specs.Histories.{command_at, wish_at, wished_size}
 use Rattle.heap_terms.specs.Regions.{IsRun, pages_needed}
 use Rattle.lisp_heap.specs.declared.allocating.Lent.{Lent}
 use Rattle.lisp_heap.specs.declared.allocating.Lent.TheVariants as lents
-use Rattle.lisp_heap.specs.Parcels.{ParcelView, RegionView, empty_parcel, place_of, HasRoom, HasBuilt, IsMaking}
+use Rattle.lisp_heap.specs.Parcels.{ParcelView, empty_parcel, place_of, HasRoom, HasBuilt, IsMaking}
 use Rattle.lisp_heap.specs.View.{View, heap_of}
 
 -- how many pages the run of a page has

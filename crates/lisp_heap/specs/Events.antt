@@ -1,5 +1,5 @@
 -- What one call does to a World: one event.
-use Rattle.std.specs.Prelude.{◌≡◌, ℕ, List, [], ◌∷◌, ◌++◌}
+use Rattle.std.specs.Prelude.{◌≡◌, ℕ, [], ◌∷◌, ◌++◌}
 use Rattle.heap_terms.specs.declared.events.Event.{Event}
 use Rattle.heap_terms.specs.Histories.{IsNext, thread_of}
 use Rattle.lisp_heap.specs.View.{View, heap_of}

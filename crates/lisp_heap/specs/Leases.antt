@@ -1,9 +1,8 @@
 -- What a parcel keeps of a region.
-use Rattle.std.specs.Prelude.{◌≡◌, ℕ, List, [], length, Option, Some, None}
+use Rattle.std.specs.Prelude.{◌≡◌, []}
 use Rattle.std.specs.Option.{ForSome}
 use Rattle.heap_terms.specs.declared.kinds.PageType.{PageType}
 use Rattle.heap_terms.specs.Fresh.{fresh_contents}
-use Rattle.heap_terms.specs.Layout.{page_type_of}
 use Rattle.heap_terms.specs.Words.{spelling}
 use Rattle.lisp_heap.specs.Parcels.{RegionView}
 use Rattle.lisp_heap.specs.declared.parcels.Lease.{Lease}

@@ -1,5 +1,5 @@
 -- What every parcel keeps true.
-use Rattle.std.specs.Prelude.{Option, option_map}
+use Rattle.std.specs.Prelude.{option_map}
 use Rattle.std.specs.Option.{ForSome}
 use Rattle.heap_terms.specs.declared.kinds.PageType.TheVariants as types
 use Rattle.lisp_heap.specs.Leases.{region_view, IsLease, IsSmallLease}

@@ -1,5 +1,5 @@
 -- What contracts see of a Parcel: the open regions of one thread.
-use Rattle.std.specs.Prelude.{◌≡◌, ℕ, ◌+◌, ◌-◌, ◌*◌, ◌≤◌, ◌<◌, ◌^◌, Option, Some, None, IsSome, IfSome, IsSomeAnd, option_map, if◌then◌else◌, is_some, List, false}
+use Rattle.std.specs.Prelude.{◌≡◌, ℕ, ◌+◌, ◌-◌, ◌*◌, ◌≤◌, ◌<◌, ◌^◌, Option, Some, None, IsSomeAnd, option_map, if◌then◌else◌, false}
 use Rattle.heap_terms.specs.declared.kinds.Kind.{Kind}
 use Rattle.heap_terms.specs.declared.kinds.Kind.TheVariants as kinds
 use Rattle.heap_terms.specs.declared.kinds.PageType.{PageType}

@@ -1,5 +1,4 @@
 -- What every World keeps true.
-use Rattle.std.specs.Prelude.{ℕ}
 use Rattle.heap_terms.specs.Histories.{Lawful, replay}
 use Rattle.heap_terms.specs.Valid.{IsValid}
 use Rattle.lisp_heap.specs.Standing.{Parts, Holds}

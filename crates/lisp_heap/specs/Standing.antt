@@ -1,5 +1,5 @@
 -- When what a World keeps stands for a named heap.
-use Rattle.std.specs.Prelude.{◌≡◌, ℕ, ◌+◌, ◌*◌, ◌/◌, ◌<◌, List, length, map, IfSome, slice_index, slice_index_or}
+use Rattle.std.specs.Prelude.{◌≡◌, ℕ, ◌*◌, ◌/◌, ◌<◌, List, length, map, IfSome, slice_index, slice_index_or}
 use Rattle.heap_terms.specs.declared.pages.Entry.{Entry}
 use Rattle.heap_terms.specs.Heap.{NamedHeap, thread_at, object_at, zero_value}
 use Rattle.heap_terms.specs.Stands.{WordsStand}

@@ -1,5 +1,5 @@
 -- What a World can answer of a thread's next command.
-use Rattle.std.specs.Prelude.{◌≡◌, ℕ, ◌<◌, length, Option, true}
+use Rattle.std.specs.Prelude.{◌≡◌, ◌<◌, length, true}
 use Rattle.std.specs.Option.{ForSome}
 use Rattle.heap_terms.specs.declared.commands.Command.{Command}
 use Rattle.heap_terms.specs.Heap.{NamedHeap}

@@ -1,5 +1,5 @@
 -- The word in a cell is that of its value.
-use Rattle.std.proofs.Common.{◌≡◌, ◌<◌, length, arith, subst, ap, ◌∙◌, sym}
+use Rattle.std.proofs.Common.{◌≡◌, subst, ◌∙◌}
 use Rattle.heap_terms.specs.Cells.{cell_value}
 use Rattle.heap_terms.specs.Words.{word_of}
 use Rattle.lisp_heap.specs.View.{View, heap_of}

@@ -1,6 +1,5 @@
 -- The command at a thread's place is read from its script.
-use Rattle.std.proofs.Common.{◌≡◌, ◌<◌, length, arith, subst, ap, ◌∙◌, sym, Option, Some, None}
-use Rattle.heap_terms.specs.declared.commands.Command.{Command}
+use Rattle.std.proofs.Common.{◌≡◌, arith, subst, Some, None}
 use Rattle.heap_terms.specs.Histories.{command_at}
 use Rattle.lisp_heap.specs.View.{View, heap_of}
 use Rattle.lisp_heap.proofs.Soundness.{states_length}

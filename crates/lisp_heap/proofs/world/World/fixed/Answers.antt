@@ -1,5 +1,5 @@
 -- `fix` puts the fixnum's word into the cell.
-use Rattle.std.proofs.Common.{◌≡◌, ℕ, ℤ, subst, ap, ◌∙◌, sym, refl, Some, to_z, of_z, w64}
+use Rattle.std.proofs.Common.{◌≡◌, ℕ, ap, ◌∙◌, to_z, of_z, w64}
 use Rattle.std.proofs.lemmas.Int.{to_z-of_z}
 use Rattle.heap_terms.specs.Layout.{fixnum_word}
 use Rattle.heap_terms.specs.Valid.{IsFixnum}

@@ -1,18 +1,13 @@
 -- `get` reads a field of a cons.
-use Rattle.std.proofs.Common.{◌≡◌, ℕ, zero, suc, ◌+◌, ◌<◌, ◌≤◌, ◌^◌, arith, subst, ap, ◌∙◌, sym, refl, length, Fits}
+use Rattle.std.proofs.Common.{◌≡◌, ℕ, zero, suc, ◌+◌, ◌<◌, arith, subst, ◌∙◌, sym}
 use Rattle.std.specs.Prelude.{slice_index}
 use Rattle.heap_terms.specs.declared.cells.Value.{Value}
-use Rattle.heap_terms.specs.declared.answers.Answer.{Answer}
-use Rattle.heap_terms.specs.declared.answers.Answer.TheVariants as answers
-use Rattle.heap_terms.specs.declared.answers.Refusal.TheVariants.{NotType, OutOfRange}
 use Rattle.heap_terms.specs.declared.commands.Command.TheVariants as commands
 use Rattle.heap_terms.specs.Cells.{cell_value}
 use Rattle.heap_terms.specs.WellFormed.{IsLiving}
 use Rattle.heap_terms.specs.Words.{word_of}
 use Rattle.lisp_heap.specs.Outcome.{IsOutcome}
-use Rattle.lisp_heap.specs.Reading.{IsWord}
 use Rattle.lisp_heap.specs.View.{View, heap_of}
-use Rattle.lisp_heap.specs.declared.outcome.Change.TheVariants as changes
 use Rattle.lisp_heap.specs.declared.outcome.Outcome.{Outcome}
 use Rattle.lisp_heap.specs.declared.world.World.TheInside.{Inside}
 use Rattle.lisp_heap.proofs.Outcomes.{got_none, got_out, got_is, field_of}

@@ -1,5 +1,5 @@
 -- A fill is at most a page.
-use Rattle.std.proofs.Common.{◌≡◌, ℕ, ◌+◌, ◌≤◌, arith, subst, ap, ◌∙◌, sym, Fits}
+use Rattle.std.proofs.Common.{arith, ◌∙◌, sym}
 use Rattle.lisp_heap.proofs.WordReading.{fill_small}
 use Rattle.lisp_heap.proofs.world.World.has_room.Goals as goal
 

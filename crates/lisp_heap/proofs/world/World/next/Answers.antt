@@ -9,7 +9,6 @@ use Rattle.heap_terms.specs.Histories.{command_at, next_command, next_for}
 use Rattle.heap_terms.specs.Regions.{wish_of}
 use Rattle.heap_terms.proofs.Scripts.{script_command}
 use Rattle.lisp_heap.specs.Agreement.{Agrees, CanBuild}
-use Rattle.lisp_heap.specs.Parcels.{ParcelView}
 use Rattle.lisp_heap.specs.Sound.{view_of, IsSound}
 use Rattle.lisp_heap.specs.State.{state_of}
 use Rattle.lisp_heap.specs.View.{View, heap_of, next_of}

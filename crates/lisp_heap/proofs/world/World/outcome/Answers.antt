@@ -1,6 +1,5 @@
 -- No other command of a valid program allocates nothing.
-use Rattle.std.proofs.Common.{◌≡◌, ℕ, subst, ap, ◌∙◌, sym, refl, Some}
-use Rattle.heap_terms.specs.declared.commands.Command.{Command}
+use Rattle.std.proofs.Common.{◌≡◌, subst, sym, Some}
 use Rattle.heap_terms.specs.declared.pages.Next.TheVariants as nexts
 use Rattle.heap_terms.specs.Histories.{command_at}
 use Rattle.lisp_heap.specs.Sound.{view_of}

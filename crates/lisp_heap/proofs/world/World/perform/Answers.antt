@@ -1,17 +1,13 @@
 -- A command that allocates nothing is one event.
-use Rattle.std.proofs.Common.{◌≡◌, ℕ, ◌<◌, ◌++◌, ◌∷◌, [], length, arith, subst, ap, ◌∙◌, sym, refl, Option, Some, None, IsSome}
+use Rattle.std.proofs.Common.{◌≡◌, arith, subst, ◌∙◌, sym, refl, Option, Some, IsSome}
 use Rattle.heap_terms.specs.declared.events.Event.TheVariants.{Did}
 use Rattle.heap_terms.specs.declared.commands.Command.{Command}
 use Rattle.heap_terms.specs.declared.pages.Next.TheVariants as nexts
 use Rattle.heap_terms.specs.Histories.{command_at, after}
 use Rattle.lisp_heap.specs.Outcome.{IsOutcome}
-use Rattle.lisp_heap.specs.Sound.{view_of}
-use Rattle.lisp_heap.specs.Standing.{Parts, Holds}
-use Rattle.lisp_heap.specs.State.{advanced}
+use Rattle.lisp_heap.specs.Standing.{Holds}
 use Rattle.lisp_heap.specs.View.{View, heap_of, next_of}
-use Rattle.lisp_heap.specs.declared.outcome.Outcome.{Outcome}
 use Rattle.lisp_heap.specs.declared.world.World.TheInside.{Inside}
-use Rattle.lisp_heap.proofs.PerformLemmas.{parts_after}
 use Rattle.lisp_heap.proofs.Soundness.{heap, states_length}
 use Rattle.lisp_heap.proofs.Stepping.{has_command, did_next, did_holds, did_agrees, can_change, state_room, sound_after, happens_after, agrees_after}
 use Rattle.lisp_heap.proofs.WordReading.{thread_in}

@@ -1,26 +1,18 @@
 -- The commit of a cons is one event.
-use Rattle.std.proofs.Common.{◌≡◌, ◌≢◌, ℕ, ◌<◌, ◌≤◌, ◌+◌, ◌*◌, ◌/◌, ◌%◌, ◌^◌, ◌++◌, ◌∷◌, [], length, arith, subst, ap, ◌∙◌, sym, refl, Option, Some, None, IsSome, false, length-set}
+use Rattle.std.proofs.Common.{◌≡◌, ℕ, ◌+◌, ◌/◌, ◌%◌, ◌++◌, ◌∷◌, [], length, arith, subst, ap, ◌∙◌, sym, refl, Option, Some, IsSome, length-set}
 use Rattle.heap_terms.specs.declared.answers.Answer.TheVariants as answers
-use Rattle.heap_terms.specs.declared.answers.Refusal.TheVariants.{Exhausted}
 use Rattle.heap_terms.specs.declared.commands.Command.{Command}
 use Rattle.heap_terms.specs.declared.commands.Command.TheVariants as commands
-use Rattle.heap_terms.specs.declared.events.Event.{Event}
-use Rattle.heap_terms.specs.declared.events.Event.TheVariants.{Did, Opened}
+use Rattle.heap_terms.specs.declared.events.Event.TheVariants.{Did}
 use Rattle.heap_terms.specs.declared.kinds.Kind.TheVariants as kinds
-use Rattle.heap_terms.specs.declared.kinds.PageType.TheVariants as types
 use Rattle.heap_terms.specs.declared.pages.Next.TheVariants as nexts
 use Rattle.heap_terms.specs.Histories.{command_at, after}
-use Rattle.heap_terms.specs.Regions.{HasNoRun, IsLowestRun, place_for, is_free, with_fill}
+use Rattle.heap_terms.specs.Regions.{place_for, with_fill}
 use Rattle.heap_terms.specs.Heap.{entry_at, thread_at}
-use Rattle.heap_terms.specs.Valid.{IsCell}
 use Rattle.heap_terms.specs.Words.{word_of}
 use Rattle.heap_terms.specs.Cells.{cell_value}
-use Rattle.heap_terms.proofs.Places.{IsSome-value}
 use Rattle.heap_terms.proofs.Scripts.{script_built}
-use Rattle.lisp_heap.specs.Agreement.{Agrees}
-use Rattle.lisp_heap.specs.Parcels.{ParcelView, with_cons, with_accepted}
-use Rattle.lisp_heap.specs.Sound.{view_of}
-use Rattle.lisp_heap.specs.Standing.{Holds}
+use Rattle.lisp_heap.specs.Parcels.{with_accepted}
 use Rattle.lisp_heap.specs.View.{View, heap_of, next_of}
 use Rattle.lisp_heap.specs.declared.world.World.TheInside.{Inside}
 use Rattle.lisp_heap.proofs.Soundness.{heap, states_length, cells_room}

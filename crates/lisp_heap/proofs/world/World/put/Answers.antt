@@ -1,9 +1,9 @@
 -- `put` writes a field of a cons.
-use Rattle.std.proofs.Common.{◌≡◌, ℕ, ◌+◌, ◌<◌, ◌≤◌, ◌^◌, arith, subst, ap, ◌∙◌, sym, refl, length, Fits}
+use Rattle.std.proofs.Common.{◌+◌, arith, subst, sym, refl}
 use Rattle.heap_terms.specs.declared.commands.Command.TheVariants as commands
 use Rattle.heap_terms.specs.Cells.{cell_value}
 use Rattle.lisp_heap.specs.Outcome.{IsOutcome}
-use Rattle.lisp_heap.specs.View.{View, heap_of}
+use Rattle.lisp_heap.specs.View.{heap_of}
 use Rattle.lisp_heap.specs.declared.outcome.Outcome.{Outcome}
 use Rattle.lisp_heap.proofs.Outcomes.{put_none, put_out, put_is}
 use Rattle.lisp_heap.proofs.WordReading.{cell_lives, cons_words_of}

@@ -1,5 +1,4 @@
 -- `show` answers the cell's value.
-use Rattle.std.proofs.Common.{◌≡◌, ℕ, subst, ap, ◌∙◌, sym, refl}
 use Rattle.heap_terms.specs.Cells.{cell_value}
 use Rattle.lisp_heap.specs.View.{heap_of}
 use Rattle.lisp_heap.proofs.Outcomes.{shown_is}

@@ -1,12 +1,10 @@
 -- The value of a living value's word.
-use Rattle.std.proofs.Common.{◌≡◌, ◌<◌, ◌/◌, length, arith, subst, ap, ◌∙◌, sym, ℕ, get_or, refl}
+use Rattle.std.proofs.Common.{◌≡◌, ◌<◌, ◌/◌, length, subst, ap, ◌∙◌, sym, ℕ, get_or, refl}
 use Rattle.std.proofs.lemmas.List.{get_or_default}
 use Rattle.heap_terms.specs.declared.cells.Value.{Value}
 use Rattle.heap_terms.specs.declared.cells.Value.TheVariants.{Ref, Nil}
 use Rattle.heap_terms.specs.WellFormed.{IsLiving}
 use Rattle.heap_terms.specs.Words.{word_of}
-use Rattle.lisp_words.specs.Tagged.{IsTagged}
-use Rattle.lisp_words.specs.declared.pointers.Lowtag.{Lowtag}
 use Rattle.lisp_heap.specs.Reading.{IsWord}
 use Rattle.lisp_heap.specs.Sound.{view_of}
 use Rattle.lisp_heap.specs.View.{View, heap_of}
