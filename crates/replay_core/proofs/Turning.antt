@@ -1,10 +1,11 @@
 -- Turns one after the other.
 use Rattle.std.proofs.Common.{◌≡◌, ℕ, zero, suc, ◌+◌, ◌<◌, ◌≤◌, List, [], ◌∷◌, ◌++◌, length, Bool, true, false, refl, sym, ◌∙◌, subst, ap, inl, inr, arith, get_or, add-one, add-zero, zero-add}
 use Rattle.std.proofs.lemmas.Bool.{ltb-true, ltb-false}
-use Rattle.std.proofs.lemmas.List.{length_push}
+use Rattle.std.proofs.lemmas.List.{length_push, take-append-drop}
+use Rattle.std.proofs.lemmas.List.Elements.{All-drop}
 use Rattle.std.proofs.lemmas.List.FromFn.{length-range_with_len, get_or-range_with_len}
 use Rattle.std.specs.List.{range_with_len}
-use Rattle.std.specs.Prelude.{nat_lt}
+use Rattle.std.specs.Prelude.{nat_lt, All, take, drop}
 use Rattle.heap_terms.specs.declared.events.Event.{Event}
 use Rattle.heap_terms.specs.declared.pages.Next.TheVariants.{Done}
 use Rattle.heap_terms.specs.declared.programs.Program.{Program}
@@ -116,3 +117,20 @@ pub WasBusy-from_lengths : (old new : View) (b : Bool) → nat_lt (length old.hi
 WasBusy-from_lengths old new true e turned = ltb-true (length old.history) (length new.history) e
 WasBusy-from_lengths old new false e turned =
     quiet_round old new turned (ltb-false (length old.history) (length new.history) e)
+
+-- turns of threads of which each has ended
+turns_of_ended : (w : View) (ts : List ℕ) → AllDone w → All (λ t. t < length w.program.threads) ts →
+    AreTurns w.program w.history ts w.history
+turns_of_ended w [] done named = refl
+turns_of_ended w (t ∷ ts) done named =
+    (w.history, inl (done t (named 0 0 (omega arith)), refl), turns_of_ended w ts done (λ k d below. named (suc k) d (omega arith)))
+
+-- where all threads have ended after a front of some turns all the turns were done
+pub Turned-whole : (ts : List ℕ) (i : ℕ) (a b : View) → All (λ t. t < length a.program.threads) ts → Turned (take i ts) a b →
+    AllDone b → Turned ts a b
+Turned-whole ts i a b named front done =
+    let named_b : All (λ t. t < length b.program.threads) (drop i ts) =
+    subst (λ (p : Program). All (λ t. t < length p.threads) (drop i ts)) (sym front.program)
+    (All-drop (λ t. t < length a.program.threads) i ts named) in
+    let rest : Turned (drop i ts) b b = record { program = refl; turns = turns_of_ended b (drop i ts) done named_b } in
+    subst (λ (us : List ℕ). Turned us a b) (take-append-drop i ts) (Turned-append (take i ts) (drop i ts) a b b front rest)

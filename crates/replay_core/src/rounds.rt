@@ -1,21 +1,41 @@
 //! Many turns: those of the schedule, and rounds of all threads until each has ended.
 
-ghost use Rattle.std.specs.Prelude.{◌≡◌, ◌<◌, ◌^◌, length, OnOk, IfOk, map};
+ghost use Rattle.std.specs.Prelude.{◌≡◌, ◌<◌, ◌^◌, length, OnOk, IfOk, IsTrue, map};
 ghost use Rattle.std.specs.List.{range_with_len};
-ghost use Rattle.replay_core.specs.Runs.{Turned, WasBusy, RoundsDone};
+ghost use Rattle.replay_core.specs.Runs.{AllDone, Turned, WasBusy, RoundsDone};
 
 use crate::machine::Machine;
-use heap_terms::{Memory, ReplayLine, Seq};
+use heap_terms::{Memory, Next, ReplayLine, Seq};
 use std::alloc::Global;
 
 /// The lines of a run.
 pub type Lines = Seq<ReplayLine>;
 
-/// The turns of the schedule.
+/// How many turns of the schedule there are between two looks at whether threads are left.
+const TURNS_BETWEEN_LOOKS: usize = 1024;
+
+/// Whether every thread has ended.
+fn all_have_ended(machine: &Machine) -> bool
+    ensures { IsTrue result → AllDone machine.now }
+{
+    let world = machine.world();
+    for t in 0..world.threads() {
+        let Next::Done = world.next(t) else {
+            return false;
+        };
+    }
+    true
+}
+
+/// The turns of the schedule. Turns after all threads have ended do nothing, so most of them are
+/// not taken.
 pub fn schedule_turns(machine: &mut Machine) -> Result<(), Memory>
     ensures { OnOk result (Turned machine.old.program.schedule machine.old machine.new) }
 {
     for i in 0..machine.world().program().schedule.len() {
+        if i % TURNS_BETWEEN_LOOKS == 0 && all_have_ended(machine) {
+            break;
+        }
         let t = machine.world().program().schedule.at(i);
         let _stepped = machine.step(t)?;
     }

@@ -1,9 +1,11 @@
-use Rattle.std.proofs.Common.{◌≡◌, ℕ, ◌<◌, ◌+◌, List, [], ◌∷◌, ◌++◌, length, take, get_or, subst, sym, ap, ◌∙◌, arith}
+use Rattle.std.proofs.Common.{◌≡◌, ℕ, ◌<◌, ◌+◌, List, [], ◌∷◌, ◌++◌, length, take, get_or, subst, refl, sym, ap, ◌∙◌, arith}
 use Rattle.std.proofs.lemmas.List.{take_more}
+use Rattle.std.specs.Prelude.{All}
+use Rattle.heap_terms.specs.Valid.{IsValid}
 use Rattle.heap_terms.specs.declared.programs.Program.{Program}
 use Rattle.lisp_heap.specs.View.{View}
 use Rattle.replay_core.specs.Runs.{Turned}
-use Rattle.replay_core.proofs.Turning.{Turned-push}
+use Rattle.replay_core.proofs.Turning.{Turned-push, Turned-whole}
 use Rattle.replay_core.proofs.rounds.schedule_turns.Goals as goal
 
 pub loop-i-preserved : goal.loop-i-preserved
@@ -23,3 +25,10 @@ loop-i-preserved c =
     take_more turns i t inside ∙ ap (λ (u : ℕ). take i turns ++ u ∷ []) (sym found) in
     subst (λ (ts : List ℕ). Turned ts start c.step.new.self) (sym more)
     (Turned-push (take i turns) t start c.loop-i.machine c.step.new.self c.in_ok-_stepped._stepped c.loop-i.invariant c.in_ok-_stepped.ensures.ok)
+
+pub returns-then-all_have_ended : goal.returns-then-all_have_ended
+returns-then-all_have_ended c =
+    let start = c.args.machine.now in
+    let valid : IsValid start.program = subst (λ (w : View). IsValid w.program) c.world.ensures c.program.ensures.valid in
+    let named : All (λ t. t < length start.program.threads) start.program.schedule = valid.schedule in
+    Turned-whole start.program.schedule c.loop-i.i start c.loop-i.machine named c.loop-i.invariant (c.if-all_have_ended.ensures refl)
