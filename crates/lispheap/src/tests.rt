@@ -4,7 +4,8 @@ ghost use Rattle.std.specs.Prelude.{◌≤◌};
 
 use crate::still::lispheap_still;
 use heap_io::{MemorySink, MemorySource};
-use std::alloc::Global;
+use std::alloc::{AllocError, Global};
+use std::process::Abort;
 use std::test::Fail;
 
 // The numbers, places and answers of the first commands.
@@ -39,7 +40,7 @@ const WHOLE: Streams<'static> = Streams {
 };
 
 // Calls the program on words and an input.
-fn ended(alloc: Global, words: &[&str], input: &[u8], streams: Streams) -> Result<Ended, Fail>
+fn outcome_of(alloc: Global, words: &[&str], input: &[u8], streams: Streams) -> Result<Ended, Fail>
     requires { 1 ≤ streams.most }
 {
     let mut spoken = Vec::new(alloc);
@@ -57,13 +58,14 @@ fn ended(alloc: Global, words: &[&str], input: &[u8], streams: Streams) -> Resul
 
 // Calls `replay` and compares status, output and what is said.
 fn assert_replay(
-    rt: HostRuntime,
+    rt: &impl Abort,
+    alloc: Global,
     input: &[u8],
     status: u8,
     out: &str,
     err: &str,
 ) -> Result<(), Fail> {
-    let got = ended(rt.alloc(), &["replay"], input, WHOLE)?;
+    let got = outcome_of(alloc, &["replay"], input, WHOLE)?;
     assert_eq!(rt; got.status, status, "{out}{err}");
     assert_eq!(rt; got.out.bytes(), out.as_bytes(), "{out}");
     assert_eq!(rt; got.err.bytes(), err.as_bytes(), "{err}");
@@ -87,7 +89,7 @@ fn scripts_give_their_journals(rt: HostRuntime) -> Result<(), Fail> {
             "1 fix s0 2 -> ok\n1 end\n0 fix s0 1 -> ok\n0 end\ndone 4\n",
         ),
     ] {
-        assert_replay(rt, input.as_bytes(), 0, journal, "")?;
+        assert_replay(&rt, rt.alloc(), input.as_bytes(), 0, journal, "")?;
     }
     Ok(())
 }
@@ -104,7 +106,7 @@ fn the_257th_cons_of_a_page_is_refused(rt: HostRuntime) -> Result<(), Fail> {
     }
     input.push_str("cons b0 b1 b1\nend\n")?;
     journal.push_str("0 cons b0 b1 b1 -> !exhausted\n0 end\ndone 259\n")?;
-    assert_replay(rt, input.as_bytes(), 0, journal.as_str(), "")
+    assert_replay(&rt, alloc, input.as_bytes(), 0, journal.as_str(), "")
 }
 
 #[test]
@@ -140,17 +142,30 @@ fn bad_lines_and_limits_are_said_by_number(rt: HostRuntime) -> Result<(), Fail> 
             "lispheap: limit threads 8\n",
         ),
     ] {
-        assert_replay(rt, input.as_bytes(), status, "", said)?;
+        assert_replay(&rt, rt.alloc(), input.as_bytes(), status, "", said)?;
     }
     Ok(())
 }
 
+// So many lines without fields.
+fn empty_lines(alloc: Global, count: usize) -> Result<Vec<u8>, AllocError> {
+    vec![in alloc; b'\n'; count]
+}
+
 #[test]
 fn too_many_bytes_are_no_script(rt: HostRuntime) -> Result<(), Fail> {
-    let input = vec![in rt.alloc(); b'\n'; 4_194_305]?;
-    assert_replay(rt, &input, 6, "", "lispheap: limit bytes 4194304\n")?;
-    let met = &input[..4_194_304];
-    assert_replay(rt, met, 3, "", "lispheap: line 4194305: missing\n")
+    let alloc = rt.alloc();
+    let passed = empty_lines(alloc, 4_194_305)?;
+    assert_replay(
+        &rt,
+        alloc,
+        &passed,
+        6,
+        "",
+        "lispheap: limit bytes 4194304\n",
+    )?;
+    let met = empty_lines(alloc, 4_194_304)?;
+    assert_replay(&rt, alloc, &met, 3, "", "lispheap: line 4194305: missing\n")
 }
 
 #[test]
@@ -163,10 +178,10 @@ fn other_words_are_no_form(rt: HostRuntime) -> Result<(), Fail> {
         &["Replay"],
     ];
     for words in lists {
-        let got = ended(rt.alloc(), words, FIRST.as_bytes(), WHOLE)?;
+        let got = outcome_of(rt.alloc(), words, FIRST.as_bytes(), WHOLE)?;
         assert_eq!(rt; got.status, 2);
-        assert_eq!(rt; got.out.bytes(), b"");
-        assert_eq!(rt; got.err.bytes(), b"lispheap: usage\n");
+        assert_eq!(rt; got.out.bytes(), b"".as_slice());
+        assert_eq!(rt; got.err.bytes(), b"lispheap: usage\n".as_slice());
     }
     Ok(())
 }
@@ -205,7 +220,7 @@ fn streams_that_fail_stop_the_program(rt: HostRuntime) -> Result<(), Fail> {
             "",
         ),
     ] {
-        let got = ended(rt.alloc(), &["replay"], FIRST.as_bytes(), streams)?;
+        let got = outcome_of(rt.alloc(), &["replay"], FIRST.as_bytes(), streams)?;
         assert_eq!(rt; got.status, status);
         assert_eq!(rt; got.out.bytes(), out.as_bytes());
         assert_eq!(rt; got.err.bytes(), err.as_bytes());
