@@ -51,6 +51,7 @@ impl Buffer {
         &self.words[..self.len]
     }
 
+    /// How many words were built. It is at most the room.
     pub fn len(&self) -> usize
         ensures value { result ≡ length self.now.built }
         ensures within { result ≤ self.now.room }
@@ -58,6 +59,7 @@ impl Buffer {
         self.len
     }
 
+    /// Forgets the words that were built. The room stays.
     pub fn clear(&mut self)
         ensures { self.new ≡ record self.old { built = [] } }
     {

@@ -42,8 +42,11 @@ impl Model for Region {
 /// What is left of a region that was closed: its pages, and the index after its last object.
 #[derive(Clone, Copy, Debug, PartialEq, Eq)]
 pub struct Closed {
+    /// The first page.
     pub first: u32,
+    /// How many pages.
     pub pages: u32,
+    /// The index, in words, after the last object.
     pub next: u32,
 }
 

@@ -9,23 +9,31 @@ use crate::lists::{Ids, Seq};
 /// A move of a pass: the object `name` went from `old` to `new`, indices in words; `None` is a stay.
 #[derive(Clone, Copy, Debug, PartialEq, Eq)]
 pub struct Placing {
+    /// The name of the object.
     pub name: u32,
+    /// Where it was, in words.
     pub old: u32,
+    /// Where it is now, in words; none where it stayed.
     pub new: Option<u32>,
 }
 
 /// An object that was pinned in a pass, and its index.
 #[derive(Clone, Copy, Debug, PartialEq, Eq)]
 pub struct PinAt {
+    /// The name of the object.
     pub name: u32,
+    /// Where it is, in words.
     pub index: u32,
 }
 
 /// A pair that a pass took out of a weak table.
 #[derive(Clone, Copy, Debug, PartialEq, Eq)]
 pub struct Cull {
+    /// The name of the table.
     pub table: u32,
+    /// The key of the pair.
     pub key: Value,
+    /// The value of the pair.
     pub value: Value,
 }
 

@@ -45,15 +45,20 @@ pub enum StepAnswer {
 /// A word step of a thread with its answer.
 #[derive(Clone, Copy, Debug, PartialEq, Eq)]
 pub struct WordLine {
+    /// The number of the thread.
     pub thread: u32,
+    /// What it did.
     pub step: WordStep,
+    /// What it was answered.
     pub answer: StepAnswer,
 }
 
 /// A line of a replay: a word step, or the number of an event of the history.
 #[derive(Clone, Copy, Debug, PartialEq, Eq)]
 pub enum ReplayLine {
+    /// A word step.
     Word(WordLine),
+    /// The number of an event, from 0 on.
     Event(u32),
 }
 

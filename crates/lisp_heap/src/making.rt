@@ -1,6 +1,6 @@
 //! A World before its first event, and whether a parcel agrees with a World.
 
-ghost use Rattle.std.specs.Prelude.{◌≡◌, ◌↔◌, ◌≤◌, ◌<◌, ◌*◌, [], length, replicate, option_map, IsTrue, IfOk};
+ghost use Rattle.std.specs.Prelude.{◌≡◌, ◌↔◌, ◌≤◌, ◌<◌, ◌*◌, [], length, option_map, IsTrue, IfOk};
 ghost use Rattle.std.specs.Option.{ForSome};
 ghost use Rattle.heap_terms.specs.declared.kinds.PageType.{PageType};
 ghost use Rattle.heap_terms.specs.Heap.{entry_at, fill_of, thread_at};
@@ -14,10 +14,10 @@ use crate::cells::CellWords;
 use crate::parcels::Parcel;
 use crate::states::{ThreadState, fresh_states};
 use crate::world::World;
-use heap_terms::{Entry, Memory, Owned, PageType, Program, Seq};
+use heap_terms::{Entry, Memory, Owned, PageType, Program};
 use page_table::PageTable;
 use std::alloc::Global;
-use word_space::Space;
+use word_space::{Prefilled, Space};
 
 /// How many double words a page has, each of which has a label.
 const PAGE_LABELS: usize = 256;
@@ -36,18 +36,6 @@ fn fresh_parcels(alloc: Global, threads: u32) -> Result<Vec<Parcel>, Memory>
     Ok(parcels)
 }
 
-/// The labels of so many pages, each 0.
-fn fresh_labels(alloc: Global, pages: u32) -> Result<Seq<u32>, Memory>
-    requires { pages ≤ 1024 }
-    ensures { IfOk result (λ labels. labels ≡ replicate (256 * pages) 0) }
-{
-    let mut labels = Vec::new(alloc);
-    match labels.resize(PAGE_LABELS * pages as usize, 0) {
-        Ok(()) => Ok(Seq::from_vec(labels)),
-        Err(_) => Err(Memory),
-    }
-}
-
 impl World {
     /// The World of a valid program before its first event, and one empty parcel for each thread,
     /// by owner.
@@ -60,7 +48,7 @@ impl World {
         let threads = program.threads.len();
         let space = Space::new(alloc, program.pages)?;
         let pages = PageTable::new(alloc, program.pages)?;
-        let labels = fresh_labels(alloc, program.pages)?;
+        let labels = Prefilled::new(alloc, PAGE_LABELS * program.pages as usize, 0)?;
         let cells = CellWords::new(alloc, threads)?;
         let states = fresh_states(alloc, threads)?;
         let parcels = fresh_parcels(alloc, threads as u32)?;

@@ -21,7 +21,9 @@ pub enum Change {
 /// The answer of a command, and the word that it changes.
 #[derive(Drop)]
 pub struct Outcome {
+    /// What the command is answered.
     pub answer: Answer,
+    /// The word that becomes another.
     pub change: Change,
 }
 

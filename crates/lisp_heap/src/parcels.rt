@@ -20,8 +20,11 @@ const PAGE_WORDS: u32 = 512;
 /// An object to build: its kind, its words of payload and its seed.
 #[derive(Clone, Copy, Debug, PartialEq, Eq)]
 pub struct Making {
+    /// Its kind.
     pub kind: Kind,
+    /// Its words of payload.
     pub n: u32,
+    /// What fills it: the word of each element, or a table's weakness.
     pub seed: u64,
 }
 

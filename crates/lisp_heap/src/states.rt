@@ -11,11 +11,17 @@ use std::alloc::Global;
 /// and the first page of its open run.
 #[derive(Clone, Copy)]
 pub struct ThreadState {
+    /// How many of its commands it has done.
     pub done: usize,
+    /// Whether it has ended.
     pub ended: bool,
+    /// Its open page of conses.
     pub cons_page: Option<u32>,
+    /// Its open page of boxed objects.
     pub boxed_page: Option<u32>,
+    /// Its open page of unboxed objects.
     pub unboxed_page: Option<u32>,
+    /// The first page of its open run.
     pub open_run: Option<u32>,
 }
 

@@ -17,11 +17,11 @@ ghost use Rattle.lisp_heap.specs.View.{heap_of, next_of};
 use crate::cells::CellWords;
 use crate::outcome::{Outcome, apply};
 use crate::states::{States, ThreadState, advance};
-use heap_terms::{Command, Entry, Event, Kind, Memory, Next, Program, Seq};
+use heap_terms::{Command, Entry, Event, Kind, Memory, Next, Program};
 use page_table::PageTable;
 use std::alloc::Global;
 use std::marker::Model;
-use word_space::Space;
+use word_space::{Prefilled, Space};
 
 /// How many words a page has.
 const PAGE_WORDS: u32 = 512;
@@ -33,7 +33,7 @@ pub struct World {
     pub(crate) space: Space,
     pub(crate) pages: PageTable,
     /// For each double word the name of the object that starts there. Only printing reads it.
-    pub(crate) labels: Seq<u32>,
+    pub(crate) labels: Prefilled<u32>,
     pub(crate) cells: CellWords,
     pub(crate) states: States,
     pub(crate) commits: u32,

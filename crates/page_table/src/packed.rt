@@ -11,10 +11,15 @@ use heap_terms::{Entry, PageType};
 /// The entry of a page. A page without a type is free, and its other numbers mean nothing.
 #[derive(Clone, Copy)]
 pub struct Packed {
+    /// What the page holds, or none where it is free.
     pub ty: Option<PageType>,
+    /// The generation of all that lies on the page.
     pub generation: u8,
+    /// How many words of the page are used.
     pub fill: u16,
+    /// The first page of the run that this page is of.
     pub run_first: u16,
+    /// How many pages that run has.
     pub run_pages: u16,
 }
 
@@ -32,12 +37,14 @@ impl Packed {
         }
     }
 
+    /// Whether the page is free.
     pub fn is_free(&self) -> bool
         ensures { result ≡ is_free (unpacked self.now) }
     {
         self.ty.is_none()
     }
 
+    /// The entry as a script's readers know it.
     pub fn entry(&self) -> Entry
         ensures { result ≡ unpacked self.now }
     {

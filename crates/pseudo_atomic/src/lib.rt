@@ -29,7 +29,9 @@ pub type Words = Seq<u64>;
 /// The turn is 0 where no thread holds it, and `t + 1` where thread `t` does.
 #[derive(Debug, PartialEq, Drop)]
 pub struct StopState {
+    /// Who holds the turn: 0 or `t + 1`.
     pub turn: u64,
+    /// The word of each thread.
     pub words: Words,
 }
 

@@ -78,9 +78,9 @@ pub fn event_lines(alloc: Global, events: u32) -> Result<Lines, Memory>
     ensures { IfOk result
         (λ lines. lines ≡ map (λ number. ReplayLine.Event number) (range_with_len 0 events)) }
 {
-    let mut lines = Seq::new(alloc);
+    let mut lines = Vec::with_capacity(alloc, events as usize)?;
     for number in 0..events {
-        lines.push(ReplayLine::Event(number))?;
+        lines.push_reserved(ReplayLine::Event(number));
     }
-    Ok(lines)
+    Ok(Lines::from_vec(lines))
 }

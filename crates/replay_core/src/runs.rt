@@ -14,6 +14,7 @@ use std::alloc::Global;
 /// A run of a program: the World at its end, and its lines.
 #[derive(Drop)]
 pub struct Replay {
+    /// The heap after its last event.
     pub world: World,
     /// The numbers of the events, from 0 on, until the word machine is built.
     pub lines: Lines,

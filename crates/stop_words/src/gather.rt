@@ -27,7 +27,9 @@ pub struct Gathered<P> {
 pub struct NotYet<P> {
     /// The lowest other thread that was not found parked.
     pub thread: u32,
+    /// The parcel that was handed in.
     pub own: P,
+    /// The list that was handed in, empty.
     pub into: Vec<P>,
 }
 

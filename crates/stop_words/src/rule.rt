@@ -19,6 +19,7 @@ impl<P: Owned> TableRule<Option<P>, View, u32> for Rule<P> {
     ghost first = { λ threads. first_view };
 }
 
+/// A thread begins to run again, with the parcel from its slot.
 pub struct Resumes<P> {
     marker: PhantomData<P>,
 }
@@ -27,6 +28,7 @@ impl<P: Owned> Play<Option<P>, View> for Resumes<P> {
     ghost then = { Resumed P.owner_of };
 }
 
+/// A thread enters a section.
 pub struct Enters<P> {
     marker: PhantomData<P>,
 }
@@ -35,6 +37,7 @@ impl<P: Owned> Play<Option<P>, View> for Enters<P> {
     ghost then = { Walked P.owner_of Enter };
 }
 
+/// A thread leaves its section.
 pub struct Leaves<P> {
     marker: PhantomData<P>,
 }
@@ -43,6 +46,7 @@ impl<P: Owned> Play<Option<P>, View> for Leaves<P> {
     ghost then = { Walked P.owner_of Leave };
 }
 
+/// A thread parks and puts its parcel into its slot.
 pub struct Parks<P> {
     marker: PhantomData<P>,
 }
@@ -51,6 +55,7 @@ impl<P: Owned> Play<Option<P>, View> for Parks<P> {
     ghost then = { ParkedIn P.owner_of };
 }
 
+/// A thread claims the turn of the holder.
 pub struct Claims<P> {
     marker: PhantomData<P>,
 }
@@ -59,6 +64,7 @@ impl<P: Owned> Play<Option<P>, View> for Claims<P> {
     ghost then = { Claimed P.owner_of };
 }
 
+/// The holder posts a stop to the next thread.
 pub struct Posts<P> {
     marker: PhantomData<P>,
 }
@@ -67,6 +73,7 @@ impl<P: Owned> Play<Option<P>, View> for Posts<P> {
     ghost then = { Posted P.owner_of };
 }
 
+/// The holder looks whether the next thread has parked.
 pub struct Looks<P> {
     marker: PhantomData<P>,
 }
@@ -75,6 +82,7 @@ impl<P: Owned> Play<Option<P>, View> for Looks<P> {
     ghost then = { Looked P.owner_of };
 }
 
+/// The holder releases the next thread.
 pub struct Releases<P> {
     marker: PhantomData<P>,
 }
@@ -83,6 +91,7 @@ impl<P: Owned> Play<Option<P>, View> for Releases<P> {
     ghost then = { Released P.owner_of };
 }
 
+/// The holder gives its turn back.
 pub struct Returns<P> {
     marker: PhantomData<P>,
 }

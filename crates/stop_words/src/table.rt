@@ -14,6 +14,7 @@ use std::alloc::{AllocError, Global};
 /// Want of memory, and nothing else. The parcels come back as they were.
 #[derive(Drop)]
 pub struct NoTable<P> {
+    /// The parcels that were handed in, in their order.
     pub parcels: Vec<P>,
 }
 

@@ -19,6 +19,7 @@ pub enum Place {
 pub struct View {
     /// The number of the thread.
     pub thread: u64,
+    /// Where the thread is.
     pub place: Place,
     /// The threads to which this thread, holding the turn, has posted a stop.
     pub posted: LinkedList<u64>,

@@ -2,8 +2,10 @@
 //! mean is for the layers above; here a write changes one word and nothing else.
 #![tactic(auto)]
 
+mod prefilled;
 mod space;
 
+pub use prefilled::Prefilled;
 pub use space::Space;
 
 #[cfg(test)]

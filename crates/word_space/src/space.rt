@@ -4,6 +4,7 @@ ghost use Rattle.std.specs.Prelude.{◌≡◌, ◌+◌, ◌*◌, ◌<◌, ◌≤
 ghost use Rattle.heap_terms.specs.Layout.{page_words};
 ghost use Rattle.word_space.specs.Space.{copied};
 
+use crate::prefilled::Prefilled;
 use heap_terms::Memory;
 use std::alloc::Global;
 use std::marker::Model;
@@ -15,7 +16,7 @@ const PAGE_WORDS: u32 = 512;
 /// These numbers are this project's own.
 #[derive(Drop)]
 pub struct Space {
-    words: Vec<u64>,
+    words: Prefilled<u64>,
 }
 
 impl Model for Space {
@@ -24,9 +25,9 @@ impl Model for Space {
 
     ghost Value = { List ℕ };
 
-    ghost view = { λ s. s.words.items };
+    ghost view = { λ s. s.words };
 
-    ghost invariant = { λ s. IsPaged s.words.items };
+    ghost invariant = { λ s. IsPaged s.words };
 }
 
 impl Space {
@@ -36,11 +37,8 @@ impl Space {
         requires most { pages ≤ 1024 }
         ensures { IfOk result (λ space. space ≡ replicate (page_words * pages) 0) }
     {
-        let mut words = Vec::new(alloc);
-        match words.resize((PAGE_WORDS * pages) as usize, 0) {
-            Ok(()) => Ok(Space { words }),
-            Err(_) => Err(Memory),
-        }
+        let words = Prefilled::new(alloc, (PAGE_WORDS * pages) as usize, 0)?;
+        Ok(Space { words })
     }
 
     /// How many pages of 512 words there are: from 1 to 1,024, and never another number.
@@ -57,7 +55,7 @@ impl Space {
         requires { index < length self.now }
         ensures { result ≡ slice_index self.now index }
     {
-        self.words[index as usize]
+        self.words.at(index as usize)
     }
 
     /// Writes the word at an index. Every other word stays.
@@ -65,7 +63,7 @@ impl Space {
         requires { index < length self.old }
         ensures { self.new ≡ slice_set self.old index word }
     {
-        self.words[index as usize] = word;
+        self.words.set(index as usize, word);
     }
 
     /// Copies the n words from `from` on over those from `to` on. The two ranges lie in the space
@@ -77,27 +75,6 @@ impl Space {
         ensures words { self.new ≡ copied self.old from to n }
         ensures len { length self.new ≡ length self.old }
     {
-        copy_words(
-            self.words.as_mut_slice(),
-            from as usize,
-            to as usize,
-            n as usize,
-        );
-    }
-}
-
-/// Copies within a list of words, between ranges that do not overlap.
-fn copy_words(words: &mut [u64], from: usize, to: usize, n: usize)
-    requires from_within { from + n ≤ length words.old }
-    requires to_within { to + n ≤ length words.old }
-    requires apart { (from + n ≤ to) ⊎ (to + n ≤ from) }
-    ensures { words.new ≡ copied words.old from to n }
-{
-    if from < to {
-        let (front, back) = words.split_at_mut(to);
-        back[..n].copy_from_slice(&front[from..from + n]);
-    } else {
-        let (front, back) = words.split_at_mut(from);
-        front[to..to + n].copy_from_slice(&back[..n]);
+        self.words.copy(from as usize, to as usize, n as usize);
     }
 }

@@ -1,18 +1,20 @@
 //! A command as a script spells it, with the space before it.
 
-ghost use Rattle.std.specs.Prelude.{◌≡◌, ◌++◌, OnOk, codes};
+ghost use Rattle.std.specs.Prelude.{◌≡◌, ◌+◌, ◌≤◌, ◌++◌, codes};
 ghost use Rattle.std.specs.Fmt.{signed_decimal};
 ghost use Rattle.heap_terms.specs.Text.{cell_field, raw_field, number_field, field, word_text, weakness_text, command_text};
+ghost use Rattle.lispheap.specs.Room.{room};
 
 use super::fields::{
-    push_bytes, push_cell, push_number_field, push_raw, push_signed_field, push_word_field,
+    push, push_cell, push_number_field, push_raw, push_signed_field, push_word_field,
 };
 use heap_terms::{Cell, Command, Raw, Weakness};
-use std::alloc::AllocError;
 
 /// Appends a command as a field.
-pub(super) fn push_command(out: &mut Vec<u8>, command: &Command) -> Result<(), AllocError>
-    ensures { OnOk result (out.new.items ≡ out.old.items ++ field (command_text command.now)) }
+pub(super) fn push_command(out: &mut Vec<u8>, command: &Command)
+    requires { 52 ≤ room out.old }
+    ensures text { out.new.items ≡ out.old.items ++ field (command_text command.now) }
+    ensures room { room out.old ≤ room out.new + 52 }
 {
     match *command {
         Command::Fix { d, n } => with_signed(out, b" fix", d, n),
@@ -35,7 +37,7 @@ pub(super) fn push_command(out: &mut Vec<u8>, command: &Command) -> Result<(), A
         Command::SetRaw { r, w } => with_raw_word(out, r, w),
         Command::AddRaw { r, k } => with_raw_add(out, r, k),
         Command::Pin { c } => with_cell(out, b" pin", c),
-        Command::Unpin => push_bytes(out, b" unpin"),
+        Command::Unpin => push(out, b" unpin"),
         Command::WeakVal { d, c } => with_two(out, b" weakval", d, c),
         Command::TablePut { c, k, v } => with_three(out, b" tput", c, k, v),
         Command::TableGet { d, c, k } => with_three(out, b" tget", d, c, k),
@@ -43,172 +45,188 @@ pub(super) fn push_command(out: &mut Vec<u8>, command: &Command) -> Result<(), A
         Command::TableCount { c } => with_cell(out, b" tcount", c),
         Command::Finalize { c, id } => with_number(out, b" finalize", c, id),
         Command::Cancel { c } => with_cell(out, b" cancel", c),
-        Command::RunFinalizers => push_bytes(out, b" runfin"),
+        Command::RunFinalizers => push(out, b" runfin"),
         Command::Collect { g } => with_number_alone(out, b" gc", g as u32),
-        Command::Inhibit => push_bytes(out, b" nogc"),
-        Command::Allow => push_bytes(out, b" gcok"),
+        Command::Inhibit => push(out, b" nogc"),
+        Command::Allow => push(out, b" gcok"),
         Command::ShowPage { p } => with_number_alone(out, b" page", p),
         Command::Stat { g } => with_number_alone(out, b" stat", g as u32),
     }
 }
 
 #[inline(always)]
-fn with_cell(out: &mut Vec<u8>, name: &[u8], a: Cell) -> Result<(), AllocError>
-    ensures { OnOk result (out.new.items ≡ out.old.items ++ (name.now ++ cell_field a)) }
+fn with_cell<const N: usize>(out: &mut Vec<u8>, name: &[u8; N], a: Cell)
+    requires { N + 5 ≤ room out.old }
+    ensures text { out.new.items ≡ out.old.items ++ (name.now ++ cell_field a) }
+    ensures room { room out.old ≤ room out.new + (N + 5) }
 {
-    push_bytes(out, name)?;
-    push_cell(out, a)
+    push(out, name);
+    push_cell(out, a);
 }
 
 #[inline(always)]
-fn with_two(out: &mut Vec<u8>, name: &[u8], a: Cell, b: Cell) -> Result<(), AllocError>
-    ensures { OnOk result (out.new.items ≡ out.old.items ++ (name.now ++ (cell_field a ++ cell_field b))) }
+fn with_two<const N: usize>(out: &mut Vec<u8>, name: &[u8; N], a: Cell, b: Cell)
+    requires { N + 10 ≤ room out.old }
+    ensures text { out.new.items ≡ out.old.items ++ (name.now ++ (cell_field a ++ cell_field b)) }
+    ensures room { room out.old ≤ room out.new + (N + 10) }
 {
-    push_bytes(out, name)?;
-    push_cell(out, a)?;
-    push_cell(out, b)
+    push(out, name);
+    push_cell(out, a);
+    push_cell(out, b);
 }
 
 #[inline(always)]
-fn with_three(out: &mut Vec<u8>, name: &[u8], a: Cell, b: Cell, c: Cell) -> Result<(), AllocError>
-    ensures { OnOk result (out.new.items
-        ≡ out.old.items ++ (name.now ++ (cell_field a ++ cell_field b ++ cell_field c))) }
+fn with_three<const N: usize>(out: &mut Vec<u8>, name: &[u8; N], a: Cell, b: Cell, c: Cell)
+    requires { N + 15 ≤ room out.old }
+    ensures text { out.new.items ≡ out.old.items ++ (name.now ++ (cell_field a ++ cell_field b ++ cell_field c)) }
+    ensures room { room out.old ≤ room out.new + (N + 15) }
 {
-    push_bytes(out, name)?;
-    push_cell(out, a)?;
-    push_cell(out, b)?;
-    push_cell(out, c)
+    push(out, name);
+    push_cell(out, a);
+    push_cell(out, b);
+    push_cell(out, c);
 }
 
 #[inline(always)]
-fn with_signed(out: &mut Vec<u8>, name: &[u8], a: Cell, n: i64) -> Result<(), AllocError>
-    ensures { OnOk result (out.new.items
-        ≡ out.old.items ++ (name.now ++ (cell_field a ++ field (signed_decimal n)))) }
+fn with_signed<const N: usize>(out: &mut Vec<u8>, name: &[u8; N], a: Cell, n: i64)
+    requires { N + 26 ≤ room out.old }
+    ensures text { out.new.items ≡ out.old.items ++ (name.now ++ (cell_field a ++ field (signed_decimal n))) }
+    ensures room { room out.old ≤ room out.new + (N + 26) }
 {
-    push_bytes(out, name)?;
-    push_cell(out, a)?;
-    push_signed_field(out, n)
+    push(out, name);
+    push_cell(out, a);
+    push_signed_field(out, n);
 }
 
 #[inline(always)]
-fn with_number(out: &mut Vec<u8>, name: &[u8], a: Cell, n: u32) -> Result<(), AllocError>
-    ensures { OnOk result (out.new.items ≡ out.old.items ++ (name.now ++ (cell_field a ++ number_field n))) }
+fn with_number<const N: usize>(out: &mut Vec<u8>, name: &[u8; N], a: Cell, n: u32)
+    requires { N + 26 ≤ room out.old }
+    ensures text { out.new.items ≡ out.old.items ++ (name.now ++ (cell_field a ++ number_field n)) }
+    ensures room { room out.old ≤ room out.new + (N + 26) }
 {
-    push_bytes(out, name)?;
-    push_cell(out, a)?;
-    push_number_field(out, n as u64)
+    push(out, name);
+    push_cell(out, a);
+    push_number_field(out, n as u64);
 }
 
 #[inline(always)]
-fn with_two_and_number(
-    out: &mut Vec<u8>,
-    name: &[u8],
-    a: Cell,
-    b: Cell,
-    n: u32,
-) -> Result<(), AllocError>
-    ensures { OnOk result (out.new.items
-        ≡ out.old.items ++ (name.now ++ (cell_field a ++ cell_field b ++ number_field n))) }
+fn with_two_and_number<const N: usize>(out: &mut Vec<u8>, name: &[u8; N], a: Cell, b: Cell, n: u32)
+    requires { N + 31 ≤ room out.old }
+    ensures text { out.new.items ≡ out.old.items ++ (name.now ++ (cell_field a ++ cell_field b ++ number_field n)) }
+    ensures room { room out.old ≤ room out.new + (N + 31) }
 {
-    push_bytes(out, name)?;
-    push_cell(out, a)?;
-    push_cell(out, b)?;
-    push_number_field(out, n as u64)
+    push(out, name);
+    push_cell(out, a);
+    push_cell(out, b);
+    push_number_field(out, n as u64);
 }
 
 #[inline(always)]
-fn with_number_alone(out: &mut Vec<u8>, name: &[u8], n: u32) -> Result<(), AllocError>
-    ensures { OnOk result (out.new.items ≡ out.old.items ++ (name.now ++ number_field n)) }
+fn with_number_alone<const N: usize>(out: &mut Vec<u8>, name: &[u8; N], n: u32)
+    requires { N + 21 ≤ room out.old }
+    ensures text { out.new.items ≡ out.old.items ++ (name.now ++ number_field n) }
+    ensures room { room out.old ≤ room out.new + (N + 21) }
 {
-    push_bytes(out, name)?;
-    push_number_field(out, n as u64)
+    push(out, name);
+    push_number_field(out, n as u64);
 }
 
 #[inline(always)]
-fn with_put(out: &mut Vec<u8>, c: Cell, i: u32, a: Cell) -> Result<(), AllocError>
-    ensures { OnOk result (out.new.items
-        ≡ out.old.items ++ field (codes "put" ++ (cell_field c ++ number_field i ++ cell_field a))) }
+fn with_put(out: &mut Vec<u8>, c: Cell, i: u32, a: Cell)
+    requires { 35 ≤ room out.old }
+    ensures text { out.new.items ≡ out.old.items ++ field (codes "put" ++ (cell_field c ++ number_field i ++ cell_field a)) }
+    ensures room { room out.old ≤ room out.new + 35 }
 {
-    push_bytes(out, b" put")?;
-    push_cell(out, c)?;
-    push_number_field(out, i as u64)?;
-    push_cell(out, a)
+    push(out, b" put");
+    push_cell(out, c);
+    push_number_field(out, i as u64);
+    push_cell(out, a);
 }
 
-fn with_words(out: &mut Vec<u8>, d: Cell, n: u32, w: u64) -> Result<(), AllocError>
-    ensures { OnOk result (out.new.items
-        ≡ out.old.items ++ field (codes "words" ++ (cell_field d ++ number_field n ++ field (word_text w)))) }
+fn with_words(out: &mut Vec<u8>, d: Cell, n: u32, w: u64)
+    requires { 51 ≤ room out.old }
+    ensures text { out.new.items ≡ out.old.items ++ field (codes "words" ++ (cell_field d ++ number_field n ++ field (word_text w))) }
+    ensures room { room out.old ≤ room out.new + 51 }
 {
-    push_bytes(out, b" words")?;
-    push_cell(out, d)?;
-    push_number_field(out, n as u64)?;
-    push_word_field(out, w)
+    push(out, b" words");
+    push_cell(out, d);
+    push_number_field(out, n as u64);
+    push_word_field(out, w);
 }
 
-fn with_table(out: &mut Vec<u8>, d: Cell, w: Weakness, b: u32) -> Result<(), AllocError>
-    ensures { OnOk result (out.new.items
-        ≡ out.old.items ++ field (codes "table" ++ (cell_field d ++ field (weakness_text w) ++ number_field b))) }
+fn with_table(out: &mut Vec<u8>, d: Cell, w: Weakness, b: u32)
+    requires { 46 ≤ room out.old }
+    ensures text { out.new.items ≡ out.old.items ++ field (codes "table" ++ (cell_field d ++ field (weakness_text w) ++ number_field b)) }
+    ensures room { room out.old ≤ room out.new + 46 }
 {
-    push_bytes(out, b" table")?;
-    push_cell(out, d)?;
-    push_weakness(out, w)?;
-    push_number_field(out, b as u64)
+    push(out, b" table");
+    push_cell(out, d);
+    push_weakness(out, w);
+    push_number_field(out, b as u64);
 }
 
-fn push_weakness(out: &mut Vec<u8>, w: Weakness) -> Result<(), AllocError>
-    ensures { OnOk result (out.new.items ≡ out.old.items ++ field (weakness_text w)) }
+fn push_weakness(out: &mut Vec<u8>, w: Weakness)
+    requires { 14 ≤ room out.old }
+    ensures text { out.new.items ≡ out.old.items ++ field (weakness_text w) }
+    ensures room { room out.old ≤ room out.new + 14 }
 {
     match w {
-        Weakness::Strong => push_bytes(out, b" strong"),
-        Weakness::Key => push_bytes(out, b" key"),
-        Weakness::Value => push_bytes(out, b" value"),
-        Weakness::KeyAndValue => push_bytes(out, b" key-and-value"),
-        Weakness::KeyOrValue => push_bytes(out, b" key-or-value"),
+        Weakness::Strong => push(out, b" strong"),
+        Weakness::Key => push(out, b" key"),
+        Weakness::Value => push(out, b" value"),
+        Weakness::KeyAndValue => push(out, b" key-and-value"),
+        Weakness::KeyOrValue => push(out, b" key-or-value"),
     }
 }
 
-fn with_raw_get(out: &mut Vec<u8>, r: Raw, c: Cell, i: u32) -> Result<(), AllocError>
-    ensures { OnOk result (out.new.items
-        ≡ out.old.items ++ field (codes "rawget" ++ (raw_field r ++ cell_field c ++ number_field i))) }
+fn with_raw_get(out: &mut Vec<u8>, r: Raw, c: Cell, i: u32)
+    requires { 38 ≤ room out.old }
+    ensures text { out.new.items ≡ out.old.items ++ field (codes "rawget" ++ (raw_field r ++ cell_field c ++ number_field i)) }
+    ensures room { room out.old ≤ room out.new + 38 }
 {
-    push_bytes(out, b" rawget")?;
-    push_raw(out, r)?;
-    push_cell(out, c)?;
-    push_number_field(out, i as u64)
+    push(out, b" rawget");
+    push_raw(out, r);
+    push_cell(out, c);
+    push_number_field(out, i as u64);
 }
 
-fn with_raw_put(out: &mut Vec<u8>, c: Cell, i: u32, r: Raw) -> Result<(), AllocError>
-    ensures { OnOk result (out.new.items
-        ≡ out.old.items ++ field (codes "rawput" ++ (cell_field c ++ number_field i ++ raw_field r))) }
+fn with_raw_put(out: &mut Vec<u8>, c: Cell, i: u32, r: Raw)
+    requires { 38 ≤ room out.old }
+    ensures text { out.new.items ≡ out.old.items ++ field (codes "rawput" ++ (cell_field c ++ number_field i ++ raw_field r)) }
+    ensures room { room out.old ≤ room out.new + 38 }
 {
-    push_bytes(out, b" rawput")?;
-    push_cell(out, c)?;
-    push_number_field(out, i as u64)?;
-    push_raw(out, r)
+    push(out, b" rawput");
+    push_cell(out, c);
+    push_number_field(out, i as u64);
+    push_raw(out, r);
 }
 
-fn with_addr(out: &mut Vec<u8>, r: Raw, c: Cell) -> Result<(), AllocError>
-    ensures { OnOk result (out.new.items ≡ out.old.items ++ field (codes "addr" ++ (raw_field r ++ cell_field c))) }
+fn with_addr(out: &mut Vec<u8>, r: Raw, c: Cell)
+    requires { 15 ≤ room out.old }
+    ensures text { out.new.items ≡ out.old.items ++ field (codes "addr" ++ (raw_field r ++ cell_field c)) }
+    ensures room { room out.old ≤ room out.new + 15 }
 {
-    push_bytes(out, b" addr")?;
-    push_raw(out, r)?;
-    push_cell(out, c)
+    push(out, b" addr");
+    push_raw(out, r);
+    push_cell(out, c);
 }
 
-fn with_raw_word(out: &mut Vec<u8>, r: Raw, w: u64) -> Result<(), AllocError>
-    ensures { OnOk result (out.new.items
-        ≡ out.old.items ++ field (codes "raw" ++ (raw_field r ++ field (word_text w)))) }
+fn with_raw_word(out: &mut Vec<u8>, r: Raw, w: u64)
+    requires { 28 ≤ room out.old }
+    ensures text { out.new.items ≡ out.old.items ++ field (codes "raw" ++ (raw_field r ++ field (word_text w))) }
+    ensures room { room out.old ≤ room out.new + 28 }
 {
-    push_bytes(out, b" raw")?;
-    push_raw(out, r)?;
-    push_word_field(out, w)
+    push(out, b" raw");
+    push_raw(out, r);
+    push_word_field(out, w);
 }
 
-fn with_raw_add(out: &mut Vec<u8>, r: Raw, k: i64) -> Result<(), AllocError>
-    ensures { OnOk result (out.new.items
-        ≡ out.old.items ++ field (codes "add" ++ (raw_field r ++ field (signed_decimal k)))) }
+fn with_raw_add(out: &mut Vec<u8>, r: Raw, k: i64)
+    requires { 30 ≤ room out.old }
+    ensures text { out.new.items ≡ out.old.items ++ field (codes "add" ++ (raw_field r ++ field (signed_decimal k))) }
+    ensures room { room out.old ≤ room out.new + 30 }
 {
-    push_bytes(out, b" add")?;
-    push_raw(out, r)?;
-    push_signed_field(out, k)
+    push(out, b" add");
+    push_raw(out, r);
+    push_signed_field(out, k);
 }

@@ -1,13 +1,11 @@
 //! What stands on a page.
 
-ghost use Rattle.std.specs.Prelude.{◌≡◌, ◌++◌, OnOk, codes, flat_map, decimal};
+ghost use Rattle.std.specs.Prelude.{◌≡◌, ◌+◌, ◌≤◌, ◌++◌, OnOk, codes, flat_map, decimal};
 ghost use Rattle.heap_terms.specs.Text.{number_field, field, type_text, item_text, page_text, name_text, index_text};
 ghost use Rattle.heap_terms.specs.declared.answers.Item.{Item as PageItem};
+ghost use Rattle.lispheap.specs.Room.{room};
 
-use super::fields::{
-    push_bytes, push_index, push_index_field, push_name, push_name_field, push_number,
-    push_number_field,
-};
+use super::fields::{push, push_index, push_name_field, push_number, push_number_field};
 use heap_terms::{Item, PageType, PageView};
 use std::alloc::AllocError;
 
@@ -15,18 +13,19 @@ use std::alloc::AllocError;
 pub(super) fn push_page(out: &mut Vec<u8>, view: &PageView) -> Result<(), AllocError>
     ensures { OnOk result (out.new.items ≡ out.old.items ++ page_text view.now) }
 {
+    out.reserve(102)?;
     match view {
-        PageView::Free => push_bytes(out, b"free"),
+        PageView::Free => push(out, b"free"),
         PageView::Small {
             ty,
             generation,
             fill,
             items,
         } => {
-            push_generation(out, *ty, *generation)?;
-            push_bytes(out, b" fill")?;
-            push_number_field(out, *fill as u64)?;
-            push_items(out, items.as_slice())
+            push_generation(out, *ty, *generation);
+            push(out, b" fill");
+            push_number_field(out, *fill as u64);
+            return push_items(out, items.as_slice());
         }
         PageView::Large {
             ty,
@@ -35,57 +34,63 @@ pub(super) fn push_page(out: &mut Vec<u8>, view: &PageView) -> Result<(), AllocE
             name,
             index,
         } => {
-            push_generation(out, *ty, *generation)?;
-            push_bytes(out, b" large")?;
-            push_number_field(out, *pages as u64)?;
-            push_name_field(out, *name)?;
-            push_index(out, *index)
+            push_generation(out, *ty, *generation);
+            push(out, b" large");
+            push_number_field(out, *pages as u64);
+            push_name_field(out, *name);
+            push_index(out, *index);
         }
     }
+    Ok(())
 }
 
 /// Appends the type of a page.
-pub(super) fn push_type(out: &mut Vec<u8>, ty: PageType) -> Result<(), AllocError>
-    ensures { OnOk result (out.new.items ≡ out.old.items ++ type_text ty) }
+pub(super) fn push_type(out: &mut Vec<u8>, ty: PageType)
+    requires { 7 ≤ room out.old }
+    ensures text { out.new.items ≡ out.old.items ++ type_text ty }
+    ensures room { room out.old ≤ room out.new + 7 }
 {
     match ty {
-        PageType::Cons => push_bytes(out, b"cons"),
-        PageType::Boxed => push_bytes(out, b"boxed"),
-        PageType::Unboxed => push_bytes(out, b"unboxed"),
+        PageType::Cons => push(out, b"cons"),
+        PageType::Boxed => push(out, b"boxed"),
+        PageType::Unboxed => push(out, b"unboxed"),
     }
 }
 
 // Appends the type and the generation of a page.
-fn push_generation(out: &mut Vec<u8>, ty: PageType, generation: u8) -> Result<(), AllocError>
-    ensures { OnOk result (out.new.items ≡ out.old.items ++ (type_text ty ++ field (codes "g" ++ decimal generation))) }
+fn push_generation(out: &mut Vec<u8>, ty: PageType, generation: u8)
+    requires { 29 ≤ room out.old }
+    ensures text { out.new.items ≡ out.old.items ++ (type_text ty ++ field (codes "g" ++ decimal generation)) }
+    ensures room { room out.old ≤ room out.new + 29 }
 {
-    push_type(out, ty)?;
-    push_bytes(out, b" g")?;
-    push_number(out, generation as u64)
+    push_type(out, ty);
+    push(out, b" g");
+    push_number(out, generation as u64);
 }
 
-// Appends the items of a page.
+// Appends the items of a page. Their room is reserved one by one.
 fn push_items(out: &mut Vec<u8>, items: &[Item]) -> Result<(), AllocError>
     ensures { OnOk result (out.new.items
         ≡ out.old.items ++ flat_map (λ (item : PageItem). field (item_text item.name item.index item.count)) items.now) }
 {
     for item in items {
-        push_item(out, item)?;
+        out.reserve(43)?;
+        push_item(out, item);
     }
     Ok(())
 }
 
 // Appends an item of a page.
-fn push_item(out: &mut Vec<u8>, item: &Item) -> Result<(), AllocError>
-    ensures { OnOk result (out.new.items
-        ≡ out.old.items ++ field (item_text item.now.name item.now.index item.now.count)) }
+fn push_item(out: &mut Vec<u8>, item: &Item)
+    requires { 43 ≤ room out.old }
+    ensures { out.new.items ≡ out.old.items ++ field (item_text item.now.name item.now.index item.now.count) }
 {
     match item.name {
-        Some(name) => push_name_field(out, name)?,
+        Some(name) => push_name_field(out, name),
         None => {
-            push_bytes(out, b" ~")?;
-            push_number(out, item.count as u64)?;
+            push(out, b" ~");
+            push_number(out, item.count as u64);
         }
     }
-    push_index(out, item.index)
+    push_index(out, item.index);
 }

@@ -7,5 +7,9 @@ use Rattle.replay_core.proofs.rounds.event_lines.Goals as goal
 pub loop-number-preserved : goal.loop-number-preserved
 loop-number-preserved c =
     let n = c.loop-number.number in
-    c.in_ok-push.ensures.ok ∙ ap (λ (xs : List ReplayLine). xs ++ Event n ∷ []) c.loop-number.invariant
-    ∙ sym (map-range_with_len_more (λ k. Event k) 0 n n (omega arith))
+    record {
+      so_far = c.push_reserved.ensures.items ∙ ap (λ (xs : List ReplayLine). xs ++ Event n ∷ []) c.loop-number.invariant.so_far
+          ∙ sym (map-range_with_len_more (λ k. Event k) 0 n n (omega arith));
+      len = omega (arith, c.push_reserved.ensures.len, c.loop-number.invariant.len);
+      room = omega (arith, c.push_reserved.ensures.capacity, c.loop-number.invariant.room);
+    }

@@ -16,9 +16,9 @@ invariant_of-world c =
       cells = c.in_ok-cells.cells;
       states = c.in_ok-states.states;
       commits = 0;
-      history = c.new-4.result;
+      history = c.new-5.result;
     } in
-    starts_sound s c.requires c.new-4.ensures.items
+    starts_sound s c.requires c.new-5.ensures.items
     (holds_start c.args.program (parts_of s) c.in_ok-space.ensures c.in_ok-pages.ensures c.in_ok-labels.ensures
     (c.in_ok-cells.ensures ∙ ap start_cells c.len-threads.ensures)
     (c.in_ok-states.ensures ∙ ap (λ (n : ℕ). replicate n fresh_state) c.len-threads.ensures) refl)
