@@ -1,14 +1,16 @@
 -- Fields in their usual spelling.
-use Rattle.std.proofs.Common.{◌≡◌, ℕ, ◌+◌, ◌-◌, ◌*◌, ◌≤◌, ◌<◌, suc, true, false, eqb, ltb, leb, ◌||◌, List, [], ◌∷◌, length, take, drop, get_or, Some, Ok, Err, refl, sym, ap, ◌∙◌, subst, arith, inl, inr}
+use Rattle.std.proofs.Common.{◌≡◌, ℕ, ◌+◌, ◌-◌, ◌*◌, ◌≤◌, ◌<◌, suc, true, false, eqb, ltb, leb, ◌||◌, List, [], ◌∷◌, ◌++◌, nat_lt, length, take, drop, get_or, Some, Ok, Err, refl, sym, ap, ◌∙◌, subst, arith, inl, inr}
 use Rattle.std.specs.Char.{is_digit, digit_value}
-use Rattle.std.proofs.lemmas.Bool.{ne_eqb, or_cases, eqb-true, lt-ltb, le-ltb, le-leb}
+use Rattle.std.proofs.lemmas.Bool.{ne_eqb, or_cases, and_parts, eqb-true, ltb-true, lt-ltb, le-ltb, le-leb}
+use Rattle.std.proofs.lemmas.List.{take_at, drop_at, length-append, get_or-append-add}
+use Rattle.std.specs.List.{list_all}
 use Rattle.std.proofs.lemmas.Str.{digit_value_digit}
 use Rattle.heap_terms.specs.declared.cells.Cell.{Cell}
 use Rattle.heap_terms.specs.declared.cells.Cell.TheVariants.{Stack, Exact, Shared}
 use Rattle.heap_terms.specs.declared.faults.Why.TheVariants.{Range}
 use Rattle.heap_terms.specs.Fields.{fields_of, is_blank, number_of, cell_number, cell_of, turns_of}
 use Rattle.script_text.specs.Commands.{an_index}
-use Rattle.script_text.specs.Left.{ends_field, field_len, fields_left, Taken}
+use Rattle.script_text.specs.Left.{ends_field, field_len, fields_left, Taken, IsSolidWord}
 use Rattle.script_text.proofs.Digits.{digit_yes}
 use Rattle.script_text.proofs.Lines.{lines-lf, SameLeft-blank, Taken-field, field_len-none, field_len-cons}
 
@@ -48,6 +50,35 @@ first_three [] h = absurd (omega arith)
 first_three (a ∷ []) h = absurd (omega arith)
 first_three (a ∷ b ∷ []) h = absurd (omega arith)
 first_three (a ∷ b ∷ c ∷ bytes) h = refl
+
+-- ---- a word before a space
+
+high_solid : (b : ℕ) → 32 < b → IsSolid b
+high_solid b high =
+    let space : eqb b 32 ≡ false = ne_eqb b 32 (λ (e : b ≡ 32). omega arith) in
+    let tab : eqb b 9 ≡ false = ne_eqb b 9 (λ (e : b ≡ 9). omega arith) in
+    record { blank = rw (space, tab) refl; lf = ne_eqb b 10 (λ (e : b ≡ 10). omega arith); cr = ne_eqb b 13 (λ (e : b ≡ 13). omega arith) }
+
+word_len : (word more : List ℕ) → list_all (λ b. nat_lt 32 b) word ≡ true → field_len (word ++ 32 ∷ more) ≡ length word
+word_len [] more h = field_len-none (32 ∷ more) refl
+word_len (b ∷ word) more h =
+    let p = and_parts (nat_lt 32 b) (list_all (λ k. nat_lt 32 k) word) h in
+    field_len-cons b (word ++ 32 ∷ more) (solid_inside b (word ++ 32 ∷ more) (high_solid b (ltb-true 32 b p.0))) ∙ ap suc (word_len word more p.1)
+
+before_space : (word more : List ℕ) → IsSolidWord word → Taken (word ++ 32 ∷ more) word (32 ∷ more)
+before_space [] more h = absurd (omega (arith, h.0))
+before_space (w ∷ ws) more h =
+    let len : field_len (w ∷ ws ++ 32 ∷ more) ≡ suc (length ws) = word_len (w ∷ ws) more h.1 in
+    let t = Taken-field (w ∷ ws ++ 32 ∷ more) (length ws) len in
+    subst (λ (field : List ℕ). Taken (w ∷ ws ++ 32 ∷ more) field (32 ∷ more)) (take_at (w ∷ ws) (32 ∷ more) (suc (length ws)) refl)
+    (subst (λ (after : List ℕ). Taken (w ∷ ws ++ 32 ∷ more) (take (suc (length ws)) (w ∷ ws ++ 32 ∷ more)) after) (drop_at (w ∷ ws) (32 ∷ more) (suc (length ws)) refl) t)
+
+-- what stands at the front is a word, and a space behind it
+pub word_taken : (rest word after : List ℕ) → IsSolidWord word → rest ≡ word ++ after → length word < length rest → get_or rest (length word) 0 ≡ 32 → Taken rest word after
+word_taken rest word [] solid e long space = absurd (omega (arith, ap (λ (k : List ℕ). length k) e, length-append word []))
+word_taken rest word (b ∷ more) solid e long space =
+    let at : b ≡ 32 = sym (get_or-append-add word (b ∷ more) 0 0) ∙ ap (λ (n : ℕ). get_or (word ++ b ∷ more) n 0) (omega arith) ∙ ap (λ (k : List ℕ). get_or k (length word) 0) (sym e) ∙ space in
+    rw e (rw at (before_space word more solid))
 
 -- ---- what the digits say
 

@@ -1,5 +1,6 @@
 -- What the bytes that are not read yet say: the fields left of the line in which they begin, and the lines after it.
-use Rattle.std.specs.Prelude.{◌≡◌, ℕ, suc, Bool, true, false, ◌&&◌, ◌||◌, List, [], ◌∷◌, ◌==◌, if◌then◌else◌}
+use Rattle.std.specs.Prelude.{◌≡◌, ℕ, suc, Bool, true, false, ◌&&◌, ◌||◌, ◌<◌, nat_lt, length, List, [], ◌∷◌, ◌==◌, if◌then◌else◌}
+use Rattle.std.specs.List.{list_all}
 use Rattle.std.specs.Str.Lines.{lines}
 use Rattle.heap_terms.specs.Fields.{is_blank, fields_of}
 
@@ -36,6 +37,10 @@ pub record NoneLeft (old new : List ℕ) : Type 0 where
 abbrev pub starts_with_blank : List ℕ → Bool
 starts_with_blank [] = false
 starts_with_blank (b ∷ bytes) = is_blank b
+
+-- a word of bytes that are neither blanks nor ends of lines
+abbrev pub IsSolidWord : List ℕ → Type 0
+IsSolidWord word = (0 < length word) × (list_all (λ b. nat_lt 32 b) word ≡ true)
 
 abbrev pub starts_with_lf : List ℕ → Bool
 starts_with_lf [] = false

@@ -8,10 +8,12 @@ ghost use Rattle.heap_terms.specs.Fields.{ranged, is_fixnum, signed_of, turns_of
 ghost use Rattle.script_text.specs.Values.{one_by_one};
 ghost use Rattle.heap_terms.specs.declared.faults.Why.TheVariants.{Fields};
 ghost use Rattle.script_text.specs.Answers.{only_field};
+ghost use Rattle.script_text.specs.Words.{text_of_name};
 ghost use Rattle.script_text.specs.Commands.{Moved, but_first, in_first, a_cell, an_index};
 
-use crate::plain::{plain_cell, plain_digit};
+use crate::plain::{plain_cell, plain_digit, plain_name};
 use crate::values::{Turns, cell, fixnum, number_up_to, turn_of_digit, turns_in};
+use crate::words::Name;
 use heap_terms::{Cell, Why};
 use std::marker::Model;
 
@@ -20,7 +22,11 @@ fn field_ends_at(bytes: &[u8], at: usize) -> bool
     requires { at < length bytes.now }
     ensures { result ≡ ends_field (drop at bytes.now) }
 {
-    match bytes[at] {
+    let byte = bytes[at];
+    if byte > b' ' {
+        return false;
+    }
+    match byte {
         b' ' | b'\t' | b'\n' => true,
         b'\r' => at + 1 < bytes.len() && bytes[at + 1] == b'\n',
         _ => false,
@@ -99,6 +105,15 @@ impl<'a> Cursor<'a> {
             return None;
         }
         Some(field)
+    }
+
+    /// The name of a command in its usual spelling, at the very front of the line.
+    pub(crate) fn plain_name(&mut self) -> Option<Name>
+        ensures { MatchOption result (self.new ≡ self.old) (λ name. Taken self.old (text_of_name name) self.new) }
+    {
+        let (name, after) = plain_name(self.rest)?;
+        self.rest = after;
+        Some(name)
     }
 
     /// The cursor at the same place.

@@ -3,8 +3,10 @@
 
 ghost use Rattle.std.specs.Prelude.{◌≡◌, ℕ, ◌+◌, ◌-◌, ◌<◌, ◌||◌, ◌==◌, List, [], ◌∷◌, Some, IfSome, take, drop};
 ghost use Rattle.heap_terms.specs.Fields.{cell_number, cell_of};
-ghost use Rattle.script_text.specs.Left.{Taken, field_len};
+ghost use Rattle.script_text.specs.Left.{IsSolidWord, Taken, field_len};
+ghost use Rattle.script_text.specs.Words.{text_of_name};
 
+use crate::words::Name;
 use heap_terms::Cell;
 
 /// Whether a byte is a space or an LF.
@@ -13,6 +15,44 @@ fn ends_plainly(byte: u8) -> bool
     ensures { result ≡ (byte == 32 || byte == 10) }
 {
     byte == b' ' || byte == b'\n'
+}
+
+/// A word with a space after it, and the bytes from that space on.
+#[inline(always)]
+fn plain_word<'a, const N: usize>(rest: &'a [u8], word: &[u8; N]) -> Option<&'a [u8]>
+    requires { IsSolidWord word.now }
+    ensures { IfSome result (λ after. Taken rest.now word.now after.now) }
+{
+    if rest.len() <= N || rest[N] != b' ' {
+        return None;
+    }
+    let (front, after) = rest.split_at(N);
+    if front == word.as_slice() {
+        Some(after)
+    } else {
+        None
+    }
+}
+
+/// The name of a command with a space after it, and the bytes from that space on.
+#[inline]
+pub(crate) fn plain_name(rest: &[u8]) -> Option<(Name, &[u8])>
+    ensures { IfSome result (λ f. Taken rest.now (text_of_name f.0) f.1.now) }
+{
+    if let Some(after) = plain_word(rest, b"cons") {
+        return Some((Name::Cons, after));
+    }
+    if let Some(after) = plain_word(rest, b"get") {
+        return Some((Name::Get, after));
+    }
+    if let Some(after) = plain_word(rest, b"put") {
+        return Some((Name::Put, after));
+    }
+    if let Some(after) = plain_word(rest, b"show") {
+        return Some((Name::Show, after));
+    }
+    let after = plain_word(rest, b"fix")?;
+    Some((Name::Fix, after))
 }
 
 /// One digit, and the bytes after it.
