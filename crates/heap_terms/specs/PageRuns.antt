@@ -1,5 +1,5 @@
 -- What the page table keeps beside allocation: runs of any generation, and the generation of a page.
--- That a page has a type and a generation is SBCL's, the numbers are this project's own.
+-- That a collector has generations is SBCL's; the types of pages and all numbers are this project's own.
 use Rattle.std.specs.Prelude.{◌≡◌, ℕ, ◌+◌, List, ◌++◌, take, drop, replicate, refl}
 use Rattle.heap_terms.specs.declared.kinds.PageType.{PageType}
 use Rattle.heap_terms.specs.declared.pages.Entry.{Entry}

@@ -1,8 +1,7 @@
 -- When the words of a space stand for a named heap.
-use Rattle.std.specs.Prelude.{◌≡◌, ℕ, ◌+◌, ◌*◌, ◌<◌, List, length, Option, IfSome, slice_index}
+use Rattle.std.specs.Prelude.{◌≡◌, ℕ, ◌+◌, ◌*◌, ◌<◌, List, length, IfSome, slice_index}
 use Rattle.heap_terms.specs.Heap.{NamedHeap, object_at, entry_at, fill_of}
 use Rattle.heap_terms.specs.Layout.{page_words, filler_word}
-use Rattle.heap_terms.specs.Objects.{Object}
 use Rattle.heap_terms.specs.WellFormed.{IsOwned}
 use Rattle.heap_terms.specs.Words.{spelling}
 

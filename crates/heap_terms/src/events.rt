@@ -50,7 +50,7 @@ pub type Culls = Seq<Cull>;
 pub type Names = Seq<u32>;
 
 /// Numbers of pages.
-pub type PageNumbers = Seq<u32>;
+pub type Pages = Seq<u32>;
 
 /// What one pass did.
 #[derive(Debug, Drop, PartialEq)]
@@ -70,7 +70,7 @@ pub struct PassRecord {
     /// The ids that were queued, in the order of registration.
     pub queued: Ids,
     /// The pages that became free, ascending.
-    pub freed: PageNumbers,
+    pub freed: Pages,
     /// How many objects of the generation died.
     pub dead: u32,
     /// How many remain.
@@ -80,7 +80,7 @@ pub struct PassRecord {
 /// The passes of one collection.
 pub type Passes = Seq<PassRecord>;
 
-/// One event of a history. Each was done under the heap's one lock.
+/// One event of a history. Events happen one after the other, and each as a whole.
 #[derive(Debug, Drop, PartialEq)]
 pub enum Event {
     /// The thread did its next command.

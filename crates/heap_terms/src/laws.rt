@@ -15,7 +15,7 @@ pub fn heaps_are_well_formed()
     ensures { HeapsAreWellFormed }
 {}
 
-/// A heap has at most 20,000 objects, one for each command; for now all are conses.
+/// A heap has at most 20,000 objects, since a command makes at most one; for now all are conses.
 pub fn heaps_are_small()
     ensures { HeapsAreSmall }
 {}

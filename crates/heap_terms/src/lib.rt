@@ -19,7 +19,7 @@ pub use answers::{Answer, Item, Items, PageView, Refusal};
 pub use cells::{Cell, Raw, Value};
 pub use commands::{Command, Commands};
 pub use events::{
-    Cull, Culls, Event, Moves, Names, PageNumbers, PassRecord, Passes, PinAt, Pins, Placing,
+    Cull, Culls, Event, Moves, Names, Pages, PassRecord, Passes, PinAt, Pins, Placing,
 };
 pub use faults::{LimitKind, Memory, Why};
 pub use kinds::{Kind, PageType, Weakness};

@@ -1,11 +1,13 @@
-//! Fixnums: an integer n is the word 2n modulo 2^64, so bit 0 is clear, as in SBCL.
+//! Fixnums: an integer n is the word 2n modulo 2^64, so bit 0 is clear. This is the project's own.
 
 ghost use Rattle.std.specs.Prelude.{◌≡◌, ℤ, ◌%◌, ◌↔◌, ◌≢◌, IsNone, IfSome};
 ghost use Rattle.heap_terms.specs.Layout.{fixnum_word};
 ghost use Rattle.heap_terms.specs.Valid.{IsFixnum};
 
+/// The least fixnum, -2^62.
 const LEAST: i64 = -0x4000_0000_0000_0000;
 
+/// The greatest fixnum, 2^62 - 1.
 const MOST: i64 = 0x3fff_ffff_ffff_ffff;
 
 /// The word of a fixnum, from -2^62 to 2^62 - 1; `None` exactly where n is out of that range.

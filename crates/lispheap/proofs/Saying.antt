@@ -1,5 +1,7 @@
 -- Texts that are appended piece by piece.
 use Rattle.std.proofs.Common.{◌≡◌, ℕ, ◌<◌, ◌≤◌, ◌-◌, List, [], ◌∷◌, ◌++◌, length, take, drop, Option, Some, refl, ap, sym, ◌∙◌, inl, inr, append_assoc, arith, length-drop, take-append-drop, eq-zero-or-pos, Result, Ok, Err, OnOk, OnErr}
+use Rattle.std.specs.Prelude.{IfErr}
+use Rattle.heap_io.specs.declared.writing.Stopped.{Stopped}
 use Rattle.heap_io.specs.Streams.{Rose, Grew}
 use Rattle.lispheap.specs.Answers.{Change, change, SaysAll, StopsWithin}
 
@@ -14,6 +16,12 @@ stopped_after text k x y f g below grew rose =
       appended = grew;
       rose = rose;
     }
+
+-- the same of whatever the call that appends the text answers
+pub stopped_within : (r : Result (Unit {0}) Stopped) (text : List ℕ) (x y : Option (List ℕ)) (f g : ℕ) →
+    IfErr r (λ s. Grew x y (take s.written text)) → IfErr r (λ s. s.written < length text) → OnErr r (Rose f g) → OnErr r (StopsWithin text (change x y f g))
+stopped_within (Ok done) text x y f g grew below rose = tt
+stopped_within (Err s) text x y f g grew below rose = stopped_after text s.written x y f g below grew rose
 
 -- where the first piece stopped, the whole did
 pub first_stopped : (a b : List ℕ) (c : Change) → StopsWithin a c → StopsWithin (a ++ b) c

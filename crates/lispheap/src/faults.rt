@@ -141,15 +141,12 @@ fn say_limit<E: Sink>(err: &mut E, kind: LimitKind) -> Result<(), Stopped>
 }
 
 /// Appends a text, or stops within it. It takes no memory.
-pub(crate) fn put_text<E: Sink>(err: &mut E, text: &[u8]) -> Result<(), Stopped>
+pub(crate) fn put_text<K: Sink>(sink: &mut K, text: &[u8]) -> Result<(), Stopped>
     ensures said { OnOk result (SaysAll text.now
-        (change (E.contents err.old) (E.contents err.new) (E.faults err.old) (E.faults err.new))) }
+        (change (K.contents sink.old) (K.contents sink.new) (K.faults sink.old) (K.faults sink.new))) }
     ensures stopped { OnErr result (StopsWithin text.now
-        (change (E.contents err.old) (E.contents err.new) (E.faults err.old) (E.faults err.new))) }
-    ensures counted { E.faults err.old ≤ E.faults err.new }
+        (change (K.contents sink.old) (K.contents sink.new) (K.faults sink.old) (K.faults sink.new))) }
+    ensures counted { K.faults sink.old ≤ K.faults sink.new }
 {
-    match write_all(err, text) {
-        Ok(()) => Ok(()),
-        Err(stopped) => Err(stopped),
-    }
+    write_all(sink, text)
 }

@@ -7,9 +7,12 @@ mod still;
 #[cfg(test)]
 mod tests;
 
+use faults::{Fault, say};
 use heap_io::{StdSink, StdSource};
+use heap_terms::Memory;
+use std::env;
+use std::io::ErrorKind;
 use std::process::ExitCode;
-use std::{env, io};
 use still::lispheap_still;
 
 fn main(rt: HostRuntime) -> ExitCode {
@@ -18,26 +21,26 @@ fn main(rt: HostRuntime) -> ExitCode {
 
 // Hands the words after the program's name to the call that does them.
 fn run(rt: &HostRuntime) -> u8 {
-    let alloc = rt.alloc();
+    let mut err = StdSink::new(rt.stderr());
     let Ok(words) = words(rt) else {
-        return 7;
+        let _ = say(&mut err, Fault::Memory);
+        return Fault::Memory.status();
     };
     let mut source = StdSource::new(rt.stdin());
     let mut out = StdSink::new(rt.stdout());
-    let mut err = StdSink::new(rt.stderr());
-    lispheap_still(alloc, &words, &mut source, &mut out, &mut err)
+    lispheap_still(rt.alloc(), &words, &mut source, &mut out, &mut err)
 }
 
 // The words after the program's name. Where one of them is no text the answer is no words, which are
 // no form that the program knows either.
-fn words(rt: &HostRuntime) -> io::Result<Vec<String>> {
+fn words(rt: &HostRuntime) -> Result<Vec<String>, Memory> {
     let mut words = Vec::new(rt.alloc());
     let all = match env::args(rt) {
         Ok(all) => all,
         Err(error) => {
             return match error.kind() {
-                io::ErrorKind::InvalidData => Ok(words),
-                _ => Err(error),
+                ErrorKind::InvalidData => Ok(words),
+                _ => Err(Memory),
             };
         }
     };

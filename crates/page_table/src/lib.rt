@@ -6,6 +6,7 @@
 mod packed;
 mod table;
 
+pub use heap_terms::Entry;
 pub use table::PageTable;
 
 #[cfg(test)]

@@ -44,7 +44,7 @@ impl Packed {
         self.ty.is_none()
     }
 
-    /// The entry as a script's readers know it.
+    /// The entry in full.
     pub fn entry(&self) -> Entry
         ensures { result ≡ unpacked self.now }
     {

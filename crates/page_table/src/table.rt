@@ -16,8 +16,8 @@ use std::marker::Model;
 /// How many words a page has.
 const PAGE_WORDS: u32 = 512;
 
-/// The entries of 1 to 1,024 pages. Contracts see it as the list of its entries. That objects lie
-/// on pages with a type and a generation is SBCL's, the numbers are this project's own.
+/// The entries of 1 to 1,024 pages. Contracts see it as the list of its entries. That a collector
+/// has generations is SBCL's; the types of pages and all numbers are this project's own.
 #[derive(Drop)]
 pub struct PageTable {
     entries: Vec<Packed>,

@@ -49,5 +49,3 @@ field_count names.Show = 1
 
 abbrev pub does : Result Command Why → Result Statement Why
 does found = found >>= λ c. Ok (Does c)
-
--- what a reader of a field found, without where it lies in memory

@@ -1,5 +1,5 @@
-use Rattle.lispheap.proofs.Saying.{stopped_after}
+use Rattle.lispheap.proofs.Saying.{stopped_within}
 use Rattle.lispheap.proofs.faults.put_text.Goals as goal
 
-pub returns-in-Err-clause-stopped : goal.returns-in-Err-clause-stopped
-returns-in-Err-clause-stopped g c = stopped_after c.args.text.now c.in-Err.stopped.written _ _ _ _ c.in-Err.ensures.proper c.in-Err.ensures.front c.in-Err.ensures.failed
+pub returns-clause-stopped : goal.returns-clause-stopped
+returns-clause-stopped g c = stopped_within c.write_all.result c.args.text.now _ _ _ _ c.write_all.ensures.front c.write_all.ensures.proper c.write_all.ensures.failed
