@@ -8,12 +8,9 @@ ghost use Rattle.heap_terms.specs.Words.{spelling};
 ghost use Rattle.alloc_region.specs.View.{opened_region, end_of, largest_object};
 
 use crate::buffer::Buffer;
-use heap_terms::{Kind, Memory, PageType};
+use heap_terms::{Kind, Memory, PAGE_WORDS, PageType};
 use std::alloc::Global;
 use std::marker::Model;
-
-/// How many words a page has.
-const PAGE_WORDS: u32 = 512;
 
 /// How many words the largest object has.
 const LARGEST_OBJECT: u32 = 65536;

@@ -24,6 +24,6 @@ pub use events::{
 pub use faults::{LimitKind, Memory, Why};
 pub use kinds::{Kind, PageType, Weakness};
 pub use lists::{Ids, Seq};
-pub use pages::{Entry, Next};
+pub use pages::{Entry, Next, PAGE_WORDS};
 pub use programs::{Program, Scripts, Turns};
 pub use steps::{Owned, ReplayLine, StepAnswer, WordLine, WordStep};

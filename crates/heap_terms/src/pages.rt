@@ -2,7 +2,10 @@
 
 use crate::kinds::{Kind, PageType};
 
-/// The entry of a page of 512 words.
+/// How many words a page has. The number is this project's own.
+pub const PAGE_WORDS: u32 = 512;
+
+/// The entry of a page.
 #[derive(Clone, Copy, Debug, PartialEq, Eq)]
 pub enum Entry {
     /// Nothing lies on the page.

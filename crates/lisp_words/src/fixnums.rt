@@ -18,10 +18,11 @@ pub fn fixnum(n: i64) -> Option<u64>
     if n < LEAST || n > MOST {
         return None;
     }
+    let twice = 2 * n.unsigned_abs();
     if n < 0 {
-        Some(u64::MAX - 2 * (-(n + 1)) as u64 - 1)
+        Some(twice.wrapping_neg())
     } else {
-        Some(2 * n as u64)
+        Some(twice)
     }
 }
 

@@ -9,12 +9,9 @@ ghost use Rattle.heap_terms.specs.PageRuns.{with_run_of, with_generation, run_fi
 ghost use Rattle.page_table.specs.Unpacked.{unpacked_all};
 
 use crate::packed::Packed;
-use heap_terms::{Entry, Memory, PageType};
+use heap_terms::{Entry, Memory, PAGE_WORDS, PageType};
 use std::alloc::Global;
 use std::marker::Model;
-
-/// How many words a page has.
-const PAGE_WORDS: u32 = 512;
 
 /// The entries of 1 to 1,024 pages. Contracts see it as the list of its entries. That a collector
 /// has generations is SBCL's; the types of pages and all numbers are this project's own.

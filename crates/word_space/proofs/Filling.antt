@@ -21,7 +21,7 @@ set_filled kept len blank i x within =
     ∙ sym (set-append_left kept (replicate (len - length kept) blank) i x within)
 
 -- a copy keeps the length
-length_copied : {A : Type 0} (items : List A) (from to n : ℕ) → from + n ≤ length items → to + n ≤ length items →
+pub length_copied : {A : Type 0} (items : List A) (from to n : ℕ) → from + n ≤ length items → to + n ≤ length items →
     length (copied items from to n) ≡ length items
 length_copied items from to n from_within to_within =
     omega (

@@ -108,7 +108,8 @@ impl<T: Copy> Prefilled<T> {
         requires from_within { from + n ≤ length self.old }
         requires to_within { to + n ≤ length self.old }
         requires apart { (from + n ≤ to) ⊎ (to + n ≤ from) }
-        ensures { self.new ≡ copied self.old from to n }
+        ensures items { self.new ≡ copied self.old from to n }
+        ensures len { length self.new ≡ length self.old }
     {
         fill_up(&mut self.kept, self.len, self.blank, from.max(to) + n);
         copy_within(self.kept.as_mut_slice(), from, to, n);

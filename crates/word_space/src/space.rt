@@ -5,12 +5,9 @@ ghost use Rattle.heap_terms.specs.Layout.{page_words};
 ghost use Rattle.word_space.specs.Space.{copied};
 
 use crate::prefilled::Prefilled;
-use heap_terms::Memory;
+use heap_terms::{Memory, PAGE_WORDS};
 use std::alloc::Global;
 use std::marker::Model;
-
-/// How many words a page has.
-const PAGE_WORDS: u32 = 512;
 
 /// The words of 1 to 1,024 pages of 512 words each. Contracts see it as the list of its words.
 /// These numbers are this project's own.

@@ -1,6 +1,6 @@
 //! Each call once, with ample memory.
 
-use crate::Space;
+use crate::{Prefilled, Space};
 use std::test::Fail;
 
 /// Takes what another thread may own and what threads may share.
@@ -24,5 +24,24 @@ fn words_are_zero_then_written_then_copied(rt: HostRuntime) -> Result<(), Fail> 
     ];
     assert_eq!(rt; found, [8, 8, 0, 7, 8]);
     crosses_threads(&space);
+    Ok(())
+}
+
+#[test]
+fn a_long_list_is_blank_but_where_it_was_written(rt: HostRuntime) -> Result<(), Fail> {
+    let mut list = Prefilled::new(rt.alloc(), 2000, 9)?;
+    assert_eq!(rt; list.len(), 2000);
+    list.set(600, 1);
+    list.copy(599, 1998, 2);
+    let found = [
+        list.at(0),
+        list.at(599),
+        list.at(600),
+        list.at(1997),
+        list.at(1998),
+        list.at(1999),
+    ];
+    assert_eq!(rt; found, [9, 9, 1, 9, 9, 1]);
+    crosses_threads(&list);
     Ok(())
 }
