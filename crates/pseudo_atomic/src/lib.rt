@@ -1,8 +1,8 @@
 //! The word machine as functions: how threads agree to stop for a collection.
 //!
 //! There is one word for the turn to collect, and one word for each thread. A thread does one step at a time; a
-//! step reads one word, changes at most that one, and has an answer. The bits, the steps and the phases are this
-//! project's own; that a collection waits for the end of a section is after SBCL's pseudo-atomic sections.
+//! step reads one word, changes at most that one, and has an answer. The sections are after SBCL's pseudo-atomic
+//! sections; that a stop waits for the end of a section, the bits, the steps and the phases are this project's own.
 #![tactic(auto)]
 
 ghost use Rattle.std.specs.Prelude.{◌≡◌, ◌≤◌, ◌<◌, ◌^◌, ◌∷◌, length, replicate, suc, IfOk, MatchOption};

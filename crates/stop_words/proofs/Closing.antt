@@ -52,7 +52,9 @@ module _ {P : Type 0} (owner : P → ℕ) where
   closes n words slots parcels last count all = record {
     words = words;
     slots = slots;
+    word_count = ap length (sym last.2) ∙ last.1.word_count;
     count = count;
+    rule = last;
     all = all;
     parked = λ t lt e. parked_at t lt (ap (λ (ws : List ℕ). slice_index ws (suc t)) last.2 ∙ e);
   }

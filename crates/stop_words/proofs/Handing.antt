@@ -167,6 +167,13 @@ module _ {P : Type 0} (owner : P → ℕ) where
         ap (λ l. slice_get l t) whole ∙ get_mid below.0 own above.0 t (sym (length-map below.0 owner) ∙ ap length owners ∙ length-numbers_from 0 t),
       )
 
+  -- the parcel that was popped after t others lay at place t
+  pub own_there : (items back left less : List P) (own : P) (t : ℕ) → back ≡ reverse items → (put : List P) × (back ≡ left ++ put) × (length put ≡ t - 0) → left ≡ less ++ own ∷ [] → slice_get items t ≡ Some own
+  own_there items back left less own t is off last =
+      ap (λ l. slice_get l t)
+      (sym (reverse-reverse items) ∙ ap reverse (sym is ∙ off.1) ∙ reverse-append left off.0 ∙ ap (λ l. reverse off.0 ++ l) (ap reverse last ∙ reverse-append less (own ∷ [])))
+      ∙ get_mid (reverse off.0) own (reverse less) t (let r = length-reverse off.0 in let z = off.2 in omega arith)
+
   -- the parcels in the order in which they are popped
   pub to_pop : (n t : ℕ) (items back : List P) → t < n → map owner items ≡ numbers_from 0 n → back ≡ reverse items → reverse (map owner back) ≡ numbers_from 0 (t - 0) ++ (t ∷ numbers_from (t + 1) (n - (t + 1)))
   to_pop n t items back lt owned is =

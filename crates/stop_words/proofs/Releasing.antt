@@ -1,5 +1,5 @@
 -- Stops taken back, one after the other.
-use Rattle.std.proofs.Common.{◌≡◌, ◌≢◌, ◌⊎◌, ◌<◌, ◌≤◌, ◌+◌, ℕ, suc, true, false, List, [], ◌∷◌, Option, None, Some, refl, sym, ap, ◌∙◌, inl, inr, ⊎_elim, bit_and, arith}
+use Rattle.std.proofs.Common.{◌≡◌, ◌≢◌, ◌⊎◌, ◌<◌, ◌≤◌, ◌+◌, ℕ, suc, true, false, List, [], ◌∷◌, Option, None, Some, refl, sym, ap, ◌∙◌, inl, inr, ⊎_elim, bit_and, add-one, arith}
 use Rattle.atomic_table.specs.Table.{Me, step, rest, Allows}
 use mathlib.Core.Option.{none}
 use Rattle.heap_terms.specs.declared.steps.WordStep.TheVariants.{Release, Return}
@@ -16,7 +16,7 @@ use Rattle.stop_words.proofs.Moves.{releases}
 use Rattle.stop_words.proofs.SeatFacts.{Facts, head_of}
 
 pub none_back : (a : ℕ) (v : View) → PutBack a a v v
-none_back a v = record { thread = refl; place = refl; given = refl; posted = λ u h. refl; seen = λ u h. refl; gone = λ u lo hi. absurd (omega arith); steps = omega arith }
+none_back a v = record { thread = refl; place = refl; given = refl; posted = λ u h. refl; seen = λ u h. refl; gone = λ u lo hi. absurd (omega arith); steps = omega arith; latest = λ lt. absurd (omega arith) }
 
 outside : (a k u : ℕ) → (u < a) ⊎ (k + 1 ≤ u) → a ≤ k → ((u < a) ⊎ (k ≤ u)) × (u ≢ k)
 outside a k u h le = ⊎_elim (λ (lo : u < a). (inl lo, λ e. omega arith)) (λ (hi : k + 1 ≤ u). (inr (omega arith), λ e. omega arith)) h
@@ -35,6 +35,7 @@ one_back a k v w x le b e =
           (λ (ne : u ≢ k). in_without u k w.posted ne ∙ b.gone u lo (omega arith))
           (same_or_not u k);
       steps = let s = ap (λ (y : View). y.steps) e in let p = b.steps in omega arith;
+      latest = λ lt. (ap (λ (y : View). y.word) e ∙ sym (add-one k), ap (λ (y : View). y.found) e);
     }
 
 -- all others were released, those below t and those above it

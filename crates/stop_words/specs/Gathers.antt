@@ -37,7 +37,7 @@ pub record GaveBack (threads : ℕ) (v w : View) : Type 0 where
   pub steps : w.steps ≡ v.steps + threads
   pub latest : (w.word ≡ 0) × (w.found ≡ suc v.thread)
 
--- the stops of the threads from a to k were taken back, in as many steps
+-- the stops of the threads from a to k were taken back, in as many steps, that of the last of them last
 pub record PutBack (a k : ℕ) (v w : View) : Type 0 where
   pub thread : w.thread ≡ v.thread
   pub place : w.place ≡ v.place
@@ -46,3 +46,4 @@ pub record PutBack (a k : ℕ) (v w : View) : Type 0 where
   pub seen : (u : ℕ) → (u < a) ⊎ (k ≤ u) → is_in u w.seen ≡ is_in u v.seen
   pub gone : (u : ℕ) → a ≤ u → u < k → is_in u w.posted ≡ false
   pub steps : w.steps ≡ v.steps + (k - a)
+  pub latest : a < k → (w.word ≡ k) × (w.found ≡ 6)

@@ -1,5 +1,5 @@
 //! What the holder of the turn does once it has posted to all: it gathers the parcels, and releases the threads.
-ghost use Rattle.std.specs.Prelude.{◌≡◌, ◌≢◌, ◌⊎◌, ℕ, ◌+◌, ◌-◌, ◌<◌, ◌≤◌, List, [], ◌∷◌, ◌++◌, suc, true, false, None, Some, Option, map, reverse, slice_get, is_ok, vec_len, vec_capacity, MatchOption, IfOk, IfErr, OnOk};
+ghost use Rattle.std.specs.Prelude.{◌≡◌, ◌≢◌, ◌⊎◌, ℕ, ◌+◌, ◌-◌, ◌<◌, ◌≤◌, List, [], ◌∷◌, ◌++◌, suc, true, false, None, Some, Option, map, reverse, length, slice_get, is_ok, vec_len, vec_capacity, MatchOption, IfOk, IfErr, OnOk};
 ghost use Rattle.heap_terms.specs.WordMachine.{has};
 ghost use Rattle.stop_words.specs.Places.{is_in};
 ghost use Rattle.stop_words.specs.Hands.{labels, labelled, lying};
@@ -141,6 +141,7 @@ impl<P: Owned> StopWords<P> {
         ensures steps { PutBack from to seat.old.me.0 seat.new.me.0 }
         ensures hand { (tail : List (ℕ × Option ℕ)) → labels P.owner_of seat.old.me.1 ≡ labelled (lying true) from (to - from) ++ tail → labels P.owner_of seat.new.me.1 ≡ tail }
         ensures parcels { (more : List ℕ) → reverse (map P.owner_of parcels.old.items) ≡ numbers_from from (to - from) ++ more → reverse (map P.owner_of parcels.new.items) ≡ more }
+        ensures put { (put : List P) × (parcels.old.items ≡ parcels.new.items ++ put) × (length put ≡ to - from) }
         ensures room { vec_capacity parcels.new ≡ vec_capacity parcels.old }
     {
         for slot in from..to {
@@ -165,6 +166,7 @@ impl<P: Owned> StopWords<P> {
         ensures steps { GaveBack (threads_of self.now) seat.old.me.0 seat.new.me.0 }
         ensures hand { labels P.owner_of seat.new.me.1 ≡ (thread, None) ∷ [] }
         ensures own { P.owner_of result.0 ≡ thread }
+        ensures parcel { slice_get parcels.items thread ≡ Some result.0 }
         ensures room { (result.1.items ≡ []) × (threads_of self.now ≤ vec_capacity result.1) }
     {
         let threads = self.threads;
@@ -214,8 +216,8 @@ impl<P: Owned> StopWords<P> {
     /// Puts the parcels of all other threads back, takes their stops back, in ascending order, and gives the turn back.
     ///
     /// The seat holds the turn, has seen all others parked, and has a `Gathered` out, in which the i-th parcel
-    /// belongs to thread i. It answers the own parcel and the empty list, which still has room for all parcels. It
-    /// takes no memory and does not wait.
+    /// belongs to thread i. It answers the parcel at the own place, and the empty list, which still has room for all
+    /// parcels. It takes no memory and does not wait.
     pub fn release(&self, seat: &mut StopSeat<P>, gathered: Gathered<P>) -> (P, Vec<P>)
         requires seat { IsSeatOf seat.old self.now }
         requires holder { ((view_of seat.old).place ≡ Place.Holding) × SeenAll (view_of seat.old) (threads_of self.now) }
@@ -224,6 +226,7 @@ impl<P: Owned> StopWords<P> {
         ensures seat { IsSeatOf seat.new self.now × (is_out seat.new ≡ false) }
         ensures steps { GaveBack (threads_of self.now) (view_of seat.old) (view_of seat.new) }
         ensures own { P.owner_of result.0 ≡ (view_of seat.old).thread }
+        ensures parcel { slice_get (parcels_of gathered) (view_of seat.old).thread ≡ Some result.0 }
         ensures room { (result.1.items ≡ []) × (threads_of self.now ≤ vec_capacity result.1) }
     {
         let thread = seat.thread;

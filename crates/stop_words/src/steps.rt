@@ -154,7 +154,6 @@ impl<P: Owned> StopWords<P> {
         ensures word { ((view_of seat.new).found ≤ threads_of self.now) × ((view_of seat.new).found ≢ suc (view_of seat.old).thread) }
         ensures answer { result ≡ claim_of (answer WordStep.Claim (view_of seat.new).found) }
     {
-        let _threads = self.threads;
         let turn = seat.thread as u64 + 1;
         let found = self
             .table

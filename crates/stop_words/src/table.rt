@@ -177,7 +177,6 @@ impl<P: Owned> StopWords<P> {
         ensures count { (vec_len seats.new + 1 ≡ threads_of self.now) × (vec_capacity seats.new ≡ vec_capacity seats.old) }
         ensures seats { OthersFresh self.now seats.new.items }
     {
-        let _first = self.threads;
         for thread in 1..self.threads {
             let seat = self.table.shared.split_seat::<NextSeat>(first);
             seats.push_reserved(StopSeat {

@@ -4,7 +4,7 @@ use Rattle.stop_words.specs.Hands.{labels, lying}
 use Rattle.stop_words.specs.Gathers.{GaveBack}
 use Rattle.stop_words.proofs.Start.{length-numbers_from}
 use Rattle.stop_words.proofs.Moves.{returns}
-use Rattle.stop_words.proofs.Handing.{own_last, to_pop, popped, some_left, none_left}
+use Rattle.stop_words.proofs.Handing.{own_last, to_pop, popped, some_left, none_left, own_there}
 use Rattle.stop_words.proofs.Releasing.{all_back, gives_back}
 use Rattle.stop_words.proofs.seats.StopWords.put_all.Goals as goal
 
@@ -62,6 +62,11 @@ pub returns-clause-own : goal.returns-clause-own
 returns-clause-own g c =
     let left = c.put_range.ensures.parcels _ (to_pop g.P.Owned.owner_of c.args.self.now.threads c.args.thread c.args.parcels.items c.reverse.new.self.items c.requires.thread.0 c.requires.parcels c.reverse.ensures.items) in
     (popped g.P.Owned.owner_of c.put_range.new.parcels.items c.pop.new.self.items c.unwrap-own.result c.args.thread _ (c.pop.ensures.items ∙ ap (λ o. c.pop.new.self.items ++ option_to_list o) c.unwrap-own.ensures) left).0
+
+pub returns-clause-parcel : goal.returns-clause-parcel
+returns-clause-parcel g c =
+    own_there g.P.Owned.owner_of c.args.parcels.items c.reverse.new.self.items c.put_range.new.parcels.items c.pop.new.self.items c.unwrap-own.result c.args.thread c.reverse.ensures.items c.put_range.ensures.put
+    (c.pop.ensures.items ∙ ap (λ o. c.pop.new.self.items ++ option_to_list o) c.unwrap-own.ensures)
 
 pub returns-clause-room : goal.returns-clause-room
 returns-clause-room g c =

@@ -1,4 +1,4 @@
-use Rattle.std.proofs.Common.{◌≤◌, ◌++◌, true, ap, ◌∙◌, option_to_list, inr, arith}
+use Rattle.std.proofs.Common.{◌≡◌, ◌≤◌, ◌+◌, ◌-◌, suc, [], ◌∷◌, ◌++◌, true, ap, sym, ◌∙◌, append_assoc, option_to_list, inr, arith}
 use Rattle.stop_words.specs.Hands.{lying}
 use Rattle.stop_words.proofs.Handing.{first_slot, first_number, popped, some_left}
 use Rattle.stop_words.proofs.Releasing.{one_back}
@@ -42,5 +42,10 @@ loop-slot-preserved g c =
       hand = λ tail shown. p.hand _ (first_slot (lying true) c.loop-slot.slot c.args.to tail _ c.loop-slot-test.true (i.hand tail shown));
       parcels = λ more shown.
           (popped g.P.Owned.owner_of c.loop-slot.parcels.items c.pop.new.self.items c.unwrap-parcel.result c.loop-slot.slot _ (c.pop.ensures.items ∙ ap (λ o. c.pop.new.self.items ++ option_to_list o) c.unwrap-parcel.ensures) (first_number c.loop-slot.slot c.args.to more _ c.loop-slot-test.true (i.parcels more shown))).1;
+      put =
+          let had = i.put in
+          let last = c.pop.ensures.items ∙ ap (λ o. c.pop.new.self.items ++ option_to_list o) c.unwrap-parcel.ensures in
+          let more : c.loop-slot.slot + 1 - c.args.from ≡ suc (c.loop-slot.slot - c.args.from) = omega arith in
+          (c.unwrap-parcel.result ∷ had.0, had.1 ∙ ap (λ l. l ++ had.0) last ∙ append_assoc c.pop.new.self.items (c.unwrap-parcel.result ∷ []) had.0, ap suc had.2 ∙ sym more);
       room = c.pop.ensures.capacity ∙ i.room;
     }
