@@ -7,10 +7,10 @@ use Rattle.heap_terms.specs.declared.pages.Next.TheVariants as nexts
 use Rattle.heap_terms.specs.Heap.{NamedHeap, thread_at, entry_at, fill_of}
 use Rattle.heap_terms.specs.Layout.{page_words}
 use Rattle.heap_terms.specs.Histories.{command_at, wish_at, wished_size}
-use Rattle.heap_terms.specs.Regions.{IsRun, pages_needed}
+use Rattle.heap_terms.specs.Regions.{IsRun, IsLowestRun, pages_needed}
 use Rattle.lisp_heap.specs.declared.allocating.Lent.{Lent}
 use Rattle.lisp_heap.specs.declared.allocating.Lent.TheVariants as lents
-use Rattle.lisp_heap.specs.Parcels.{ParcelView, empty_parcel, place_of, HasRoom, HasBuilt, IsMaking}
+use Rattle.lisp_heap.specs.Parcels.{ParcelView, empty_parcel, place_of, with_cons, HasRoom, HasBuilt, IsMaking}
 use Rattle.lisp_heap.specs.View.{View, heap_of}
 
 -- how many pages the run of a page has
@@ -68,3 +68,9 @@ HasRunFor w t = (first : ℕ) × IsRun (heap_of w).pages first (pages_needed (wi
 abbrev pub Lends : View → ℕ → Lent → Type 0
 Lends old t lents.Opened = HasRunFor old t
 Lends old t lents.Exhausted = ¬ HasRunFor old t
+
+-- what `lend` makes of the parcel: a region of conses on the lowest free page is in it in place of the one that was
+-- there, or it stays
+abbrev pub Adopts : View → ParcelView → ParcelView → Lent → Type 0
+Adopts old q after lents.Opened = (first : ℕ) × IsLowestRun (heap_of old).pages first 1 × (after ≡ with_cons q first)
+Adopts old q after lents.Exhausted = after ≡ q
