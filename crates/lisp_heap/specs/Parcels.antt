@@ -88,3 +88,19 @@ cons_accepted r = record r { next = r.next + 2; built = None }
 -- a parcel after the cons that is built there was committed
 abbrev pub with_accepted : ParcelView → ParcelView
 with_accepted q = record q { cons = option_map cons_accepted q.cons }
+
+-- a region after an object was built there
+abbrev pub region_built : Making → RegionView → RegionView
+region_built m r = record r { built = Some m }
+
+-- a parcel after an object was built in its small region of a type
+abbrev pub small_built : ParcelView → PageType → Making → ParcelView
+small_built q types.Cons m = record q { cons = option_map (region_built m) q.cons }
+small_built q types.Boxed m = record q { boxed = option_map (region_built m) q.boxed }
+small_built q types.Unboxed m = record q { unboxed = option_map (region_built m) q.unboxed }
+
+-- a parcel after an object was built in the region of its class: what is built in the other regions stays
+abbrev pub with_built : ParcelView → Kind → ℕ → ℕ → ParcelView
+with_built q kind n seed =
+    let m : Making = record { kind = kind; n = n; seed = seed } in
+    if is_small (size_of kind n) then small_built q (page_type_of kind) m else record q { run = option_map (region_built m) q.run }

@@ -7,7 +7,7 @@ ghost use Rattle.heap_terms.specs.declared.kinds.PageType.{PageType};
 ghost use Rattle.heap_terms.specs.declared.kinds.PageType.TheVariants as types;
 ghost use Rattle.heap_terms.specs.Layout.{page_type_of};
 ghost use Rattle.lisp_heap.specs.Leases.{region_view, IsLease, IsSmallLease};
-ghost use Rattle.lisp_heap.specs.Parcels.{Fits, HasRoom, HasBuilt, IsMaking, RegionView, empty_parcel, one_if, place_of, regions_in, small_region, with_accepted, with_cons};
+ghost use Rattle.lisp_heap.specs.Parcels.{Fits, HasRoom, HasBuilt, IsMaking, RegionView, empty_parcel, one_if, place_of, region_built, regions_in, small_region, with_accepted, with_built, with_cons};
 
 use alloc_region::Region;
 use heap_terms::{Kind, Owned, PageType};
@@ -83,7 +83,7 @@ fn build_in(slot: &mut Option<Lease>, making: Making)
     requires fits { ForSome slot.old (λ l. Fits making.kind making.n (region_view l)) }
     requires ty { ForSome slot.old (λ l. l.region.ty ≡ page_type_of making.kind) }
     requires making { IsMaking making.kind making.n making.seed }
-    ensures view { option_map region_view slot.new ≡ option_map (λ l. record (region_view l) { built = Some making }) slot.old }
+    ensures view { option_map region_view slot.new ≡ option_map (region_built making) (option_map region_view slot.old) }
     ensures lease { ForSome slot.new IsLease }
     ensures small { (ty : PageType) → ForSome slot.old (IsSmallLease ty) → ForSome slot.new (IsSmallLease ty) }
 {
@@ -141,6 +141,7 @@ impl Parcel {
     pub fn build(&mut self, kind: Kind, n: u32, seed: u64)
         requires room { HasRoom self.old kind n }
         requires making { IsMaking kind n seed }
+        ensures parcel { self.new ≡ with_built self.old kind n seed }
         ensures built { HasBuilt self.new kind n seed }
         ensures owner { self.new.owner ≡ self.old.owner }
         ensures cons { option_map place_of self.new.cons ≡ option_map place_of self.old.cons }
