@@ -5,13 +5,14 @@ ghost use Rattle.std.specs.Option.{ForSome};
 ghost use Rattle.heap_terms.specs.declared.kinds.Kind.TheVariants as kinds;
 ghost use Rattle.heap_terms.specs.declared.kinds.PageType.{PageType};
 ghost use Rattle.heap_terms.specs.declared.kinds.PageType.TheVariants as types;
-ghost use Rattle.heap_terms.specs.Layout.{page_type_of};
+ghost use Rattle.heap_terms.specs.Layout.{page_type_of, size_of};
+ghost use Rattle.heap_terms.specs.Regions.{is_small};
 ghost use Rattle.lisp_heap.specs.Leases.{region_view, IsLease, IsSmallLease};
 ghost use Rattle.lisp_heap.specs.Parcels.{Fits, HasRoom, HasBuilt, IsMaking, RegionView, empty_parcel, one_if, place_of, region_built, regions_in, small_region, with_accepted, with_built, with_cons};
 
 use alloc_region::Region;
 use heap_terms::{Kind, Owned, PageType};
-use lisp_words::{page_type, size_of};
+use lisp_words::page_type;
 use std::marker::Model;
 
 /// How many words a page has.
@@ -61,6 +62,17 @@ impl Owned for Parcel {
 
     fn owner(&self) -> u32 {
         self.owner
+    }
+}
+
+/// Whether an object of a kind with n words of payload takes at most a page: all but a cons have a
+/// header beside their payload.
+fn is_small_object(kind: Kind, n: u32) -> bool
+    ensures { result ≡ is_small (size_of kind n) }
+{
+    match kind {
+        Kind::Cons => true,
+        _ => n < PAGE_WORDS,
     }
 }
 
@@ -150,24 +162,23 @@ impl Parcel {
         ensures run { option_map place_of self.new.run ≡ option_map place_of self.old.run }
     {
         let making = Making { kind, n, seed };
-        if size_of(kind, n) > PAGE_WORDS {
-            build_in(&mut self.run, making);
-        } else {
+        if is_small_object(kind, n) {
             match page_type(kind) {
                 PageType::Cons => build_in(&mut self.cons, making),
                 PageType::Boxed => build_in(&mut self.boxed, making),
                 PageType::Unboxed => build_in(&mut self.unboxed, making),
             }
+        } else {
+            build_in(&mut self.run, making);
         }
     }
 
     /// Whether just this object is built there and not committed. It takes no memory.
     pub fn has_built(&self, kind: Kind, n: u32, seed: u64) -> bool
-        requires { n ≤ 65535 }
         ensures { IsTrue result ↔ HasBuilt self.now kind n seed }
     {
         let making = Making { kind, n, seed };
-        if size_of(kind, n) > PAGE_WORDS {
+        if !is_small_object(kind, n) {
             return has_built_in(&self.run, making);
         }
         match page_type(kind) {
