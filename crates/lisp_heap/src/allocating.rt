@@ -15,14 +15,11 @@ ghost use Rattle.lisp_heap.specs.View.{heap_of, next_of};
 
 use crate::parcels::Parcel;
 use crate::states::{advance, end_state, open_cons};
-use crate::world::World;
+use crate::world::{PAGE_WORDS, World};
 use alloc_region::Region;
 use heap_terms::{Answer, Command, Event, Kind, Memory, Owned, PageType, Refusal};
 use lisp_words::tag;
 use std::alloc::Global;
-
-/// How many words a page has.
-const PAGE_WORDS: u32 = 512;
 
 /// What `lend` did.
 #[derive(Clone, Copy, Debug, PartialEq, Eq)]
@@ -125,6 +122,7 @@ impl World {
         ensures err { OnErr result (self.new ≡ self.old) }
         ensures kept { OnErr result (parcel.new ≡ parcel.old) }
     {
+        // Looked into here, so that what follows may use what a World keeps true.
         let _program = &self.program;
         let t = parcel.owner();
         let index = parcel.next_cons();

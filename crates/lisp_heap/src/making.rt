@@ -13,7 +13,7 @@ ghost use Rattle.lisp_heap.specs.View.{heap_of};
 use crate::cells::CellWords;
 use crate::parcels::Parcel;
 use crate::states::{ThreadState, fresh_states};
-use crate::world::World;
+use crate::world::{PAGE_WORDS, World};
 use heap_terms::{Entry, Memory, Owned, PageType, Program};
 use page_table::PageTable;
 use std::alloc::Global;
@@ -21,9 +21,6 @@ use word_space::{Prefilled, Space};
 
 /// How many double words a page has, each of which has a label.
 const PAGE_LABELS: usize = 256;
-
-/// How many words a page has.
-const PAGE_WORDS: u32 = 512;
 
 /// The parcels of so many threads, each empty.
 fn fresh_parcels(alloc: Global, threads: u32) -> Result<Vec<Parcel>, Memory>

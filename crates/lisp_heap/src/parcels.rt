@@ -10,13 +10,11 @@ ghost use Rattle.heap_terms.specs.Regions.{is_small};
 ghost use Rattle.lisp_heap.specs.Leases.{region_view, IsLease, IsSmallLease};
 ghost use Rattle.lisp_heap.specs.Parcels.{Fits, HasRoom, HasBuilt, IsMaking, RegionView, empty_parcel, one_if, place_of, region_built, regions_in, small_region, with_accepted, with_built, with_cons};
 
+use crate::world::PAGE_WORDS;
 use alloc_region::Region;
 use heap_terms::{Kind, Owned, PageType};
 use lisp_words::page_type;
 use std::marker::Model;
-
-/// How many words a page has.
-const PAGE_WORDS: u32 = 512;
 
 /// An object to build: its kind, its words of payload and its seed.
 #[derive(Clone, Copy, Debug, PartialEq, Eq)]
@@ -111,12 +109,7 @@ fn has_built_in(slot: &Option<Lease>, making: Making) -> bool
 {
     match slot {
         None => false,
-        Some(lease) => match lease.built {
-            None => false,
-            Some(built) => {
-                built.kind == making.kind && built.n == making.n && built.seed == making.seed
-            }
-        },
+        Some(lease) => lease.built == Some(making),
     }
 }
 
