@@ -7,6 +7,7 @@ use Rattle.heap_terms.specs.declared.kinds.PageType.TheVariants as types
 use Rattle.heap_terms.specs.Layout.{page_words, page_type_of, size_of}
 use Rattle.heap_terms.specs.Regions.{is_small}
 use Rattle.lisp_heap.specs.declared.parcels.Making.{Making}
+use Rattle.lisp_heap.specs.declared.parcels.RegionPlace.{RegionPlace}
 
 -- a region: the type of its pages, its first page, its pages, the index at which its next object begins, and what
 -- is built there and not committed
@@ -66,8 +67,8 @@ abbrev pub HasBuilt : ParcelView → Kind → ℕ → ℕ → Type 0
 HasBuilt q kind n seed = IsSomeAnd (region_for q kind n) (λ r. r.built ≡ Some (record { kind = kind; n = n; seed = seed }))
 
 -- a region without what is built there
-abbrev pub place_of : RegionView → ℕ × ℕ × ℕ
-place_of r = (r.first, r.pages, r.next)
+abbrev pub place_of : RegionView → RegionPlace
+place_of r = record { first = r.first; pages = r.pages; next = r.next }
 
 -- the number of regions in a parcel
 abbrev pub one_if : Option RegionView → ℕ

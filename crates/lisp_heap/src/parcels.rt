@@ -27,6 +27,17 @@ pub struct Making {
     pub seed: u64,
 }
 
+/// Where a region lies that is out.
+#[derive(Clone, Copy)]
+pub(crate) struct RegionPlace {
+    /// Its first page.
+    pub first: u32,
+    /// How many pages it has.
+    pub pages: u32,
+    /// The index in words at which its next object begins.
+    pub next: u32,
+}
+
 /// A region that is out, and what is built there and not committed.
 pub struct Lease {
     region: Region,
@@ -113,17 +124,17 @@ fn has_built_in(slot: &Option<Lease>, making: Making) -> bool
     }
 }
 
-/// A region's first page, its pages, and where its next object begins.
-fn place(slot: &Option<Lease>) -> Option<(u32, u32, u32)>
+/// Where the region of a slot lies.
+fn place(slot: &Option<Lease>) -> Option<RegionPlace>
     ensures { result ≡ option_map place_of (option_map region_view slot.now) }
 {
     match slot {
         None => None,
-        Some(lease) => Some((
-            lease.region.first(),
-            lease.region.pages(),
-            lease.region.next(),
-        )),
+        Some(lease) => Some(RegionPlace {
+            first: lease.region.first(),
+            pages: lease.region.pages(),
+            next: lease.region.next(),
+        }),
     }
 }
 
@@ -196,7 +207,7 @@ impl Parcel {
     }
 
     /// The place of the small region of a type.
-    pub(crate) fn small_place(&self, ty: PageType) -> Option<(u32, u32, u32)>
+    pub(crate) fn small_place(&self, ty: PageType) -> Option<RegionPlace>
         ensures { result ≡ option_map place_of (small_region self.now ty) }
     {
         match ty {
@@ -207,7 +218,7 @@ impl Parcel {
     }
 
     /// The place of the run.
-    pub(crate) fn run_place(&self) -> Option<(u32, u32, u32)>
+    pub(crate) fn run_place(&self) -> Option<RegionPlace>
         ensures { result ≡ option_map place_of self.now.run }
     {
         place(&self.run)
