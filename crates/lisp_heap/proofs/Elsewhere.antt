@@ -12,12 +12,12 @@ use Rattle.lisp_heap.specs.declared.states.ThreadState.{ThreadState}
 small_out_same : (old new : List Entry) (o : Option ℕ) → ((page : ℕ) → o ≡ Some page → entry_at new page ≡ entry_at old page) →
     option_map (small_out old) o ≡ option_map (small_out new) o
 small_out_same old new None h = refl
-small_out_same old new (Some page) h = ap (λ (e : Entry). Some (page, 1, 512 * page + fill_of e)) (sym (h page refl))
+small_out_same old new (Some page) h = ap (λ (e : Entry). Some (record { first = page; pages = 1; next = 512 * page + fill_of e })) (sym (h page refl))
 
 run_out_same : (old new : List Entry) (o : Option ℕ) → ((page : ℕ) → o ≡ Some page → entry_at new page ≡ entry_at old page) →
     option_map (run_out old) o ≡ option_map (run_out new) o
 run_out_same old new None h = refl
-run_out_same old new (Some page) h = ap (λ (e : Entry). Some (page, run_pages_of e, 512 * page)) (sym (h page refl))
+run_out_same old new (Some page) h = ap (λ (e : Entry). Some (record { first = page; pages = run_pages_of e; next = 512 * page })) (sym (h page refl))
 
 -- the boxed and unboxed regions and the run alone
 pub record AgreesBeside (a : NamedHeap) (q : ParcelView) : Type 0 where

@@ -16,6 +16,7 @@ use Rattle.lisp_heap.specs.Agreement.{Agrees, IsBuiltFor, Lends}
 use Rattle.lisp_heap.specs.Parcels.{ParcelView, RegionView, HasBuilt}
 use Rattle.lisp_heap.specs.Sound.{IsSound, view_of}
 use Rattle.lisp_heap.specs.View.{View, heap_of, next_of}
+use Rattle.lisp_heap.specs.declared.parcels.RegionPlace.{RegionPlace}
 use Rattle.lisp_heap.specs.declared.allocating.Lent.TheVariants as lents
 use Rattle.lisp_heap.specs.declared.world.World.TheInside.{Inside}
 use Rattle.lisp_heap.proofs.Nexts.{cons_region}
@@ -84,6 +85,6 @@ built_place s w h e q index lt builds agrees said =
     let page = has_page s.program (heap s) q.owner kinds.Cons 2 (well_formed s h) refl ((builds_room s.program (heap s) q.owner (found.0) found.1 here).1) in
     let region = cons_region (heap s) q page.page agrees_here page.open_is in
     let next_is : (region.0).next ≡ page_words * page.page + page.fill =
-    ap (λ (z : ℕ × ℕ × ℕ). z.2) region.2 ∙ ap (λ (n : ℕ). page_words * page.page + n) (ap fill_of page.entry) in
+    ap (λ (z : RegionPlace). z.next) region.2 ∙ ap (λ (n : ℕ). page_words * page.page + n) (ap fill_of page.entry) in
     subst (λ (v : View). index ≡ place_for (heap_of v) q.owner kinds.Cons 2) e
     (said (region.0) region.1 ∙ next_is ∙ sym (place_small (heap s) q.owner kinds.Cons 2 refl page))

@@ -37,13 +37,14 @@ use Rattle.lisp_heap.specs.Parcels.{ParcelView, RegionView, place_of, with_accep
 use Rattle.lisp_heap.specs.Sound.{IsSound}
 use Rattle.lisp_heap.specs.Standing.{Parts, Holds, CellsStand, LabelsStand}
 use Rattle.lisp_heap.specs.State.{state_of, advanced, fresh_state}
+use Rattle.lisp_heap.specs.declared.parcels.RegionPlace.{RegionPlace}
 use Rattle.lisp_heap.specs.declared.states.ThreadState.{ThreadState}
 use Rattle.lisp_heap.specs.declared.world.World.TheInside.{Inside}
 use Rattle.lisp_heap.proofs.Agreeing.{Agrees-thread, states_at}
 use Rattle.lisp_heap.proofs.CellLemmas.{CellsStand-with_thread, CellsStand-with_cell, CellsStand-objects}
 use Rattle.lisp_heap.proofs.CommitLemmas.{WordsStand-commit, LabelsStand-commit, new_placed}
 use Rattle.lisp_heap.proofs.Elsewhere.{Agrees-beside, Agrees-entries}
-use Rattle.lisp_heap.proofs.Nexts.{cons_region}
+use Rattle.lisp_heap.proofs.Nexts.{cons_region, lies_on}
 use Rattle.lisp_heap.proofs.ObjectLemmas.{word_of-push}
 use Rattle.lisp_heap.proofs.Soundness.{heap, well_formed, conses, living_in}
 use Rattle.lisp_heap.proofs.Unchanged.{with_cell-objects, with_cell-pages, with_cell-states, state_read, states_set}
@@ -273,10 +274,10 @@ module _ (s : Inside) (h : IsSound s) (t : ℕ) (d x y : Cell) (index : ℕ) (lt
       let region = cons_region a q on_page.page agrees own_page in
       let r = region.0 in
       let fill_here : fill_of (entry_at a.pages on_page.page) ≡ on_page.fill = ap fill_of on_page.entry in
-      let first : r.first ≡ on_page.page = ap (λ (z : ℕ × ℕ × ℕ). z.0) region.2 in
-      let one : r.pages ≡ 1 = ap (λ (z : ℕ × ℕ × ℕ). z.1) region.2 in
+      let first : r.first ≡ on_page.page = ap (λ (z : RegionPlace). z.first) region.2 in
+      let one : r.pages ≡ 1 = ap (λ (z : RegionPlace). z.pages) region.2 in
       let next_is : r.next ≡ page_words * on_page.page + on_page.fill =
-      ap (λ (z : ℕ × ℕ × ℕ). z.2) region.2 ∙ ap (λ (n : ℕ). page_words * on_page.page + n) fill_here in
+      ap (λ (z : RegionPlace). z.next) region.2 ∙ ap (λ (n : ℕ). page_words * on_page.page + n) fill_here in
       let below : on_page.page < length a.pages = omega (arith, index_page, inside_pages, ap length h.holds.pages) in
       let now_entry : entry_at celled.pages on_page.page ≡ Used types.Cons 0 (on_page.fill + 2) on_page.page 1 =
       ap (λ (ps : List Entry). entry_at ps on_page.page) celled_pages
@@ -284,7 +285,7 @@ module _ (s : Inside) (h : IsSound s) (t : ℕ) (d x y : Cell) (index : ℕ) (lt
       let moved : r.next + 2 ≡ page_words * on_page.page + fill_of (entry_at celled.pages on_page.page) =
       omega (arith, next_is, ap fill_of now_entry) in
       let place : place_of (cons_accepted r) ≡ small_out celled.pages on_page.page =
-      ap (λ (n : ℕ). (n, r.pages, r.next + 2)) first ∙ ap (λ (n : ℕ). (on_page.page, n, r.next + 2)) one ∙ ap (λ (n : ℕ). (on_page.page, 1, n)) moved in
+      lies_on (cons_accepted r) celled.pages on_page.page first one moved in
       let state = same_states q.owner in
       let beside = Agrees-beside a celled q (ap (λ (k : ThreadState). k.boxed_page) state) (ap (λ (k : ThreadState). k.unboxed_page) state) (ap (λ (k : ThreadState). k.open_run) state)
       (record {

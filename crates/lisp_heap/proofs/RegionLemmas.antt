@@ -138,7 +138,7 @@ module _ (s : Inside) (h : IsSound s) (t : ℕ) (c : Command) (first : ℕ) (lt 
       let place : page_words * first ≡ page_words * first + fill_of (entry_at (with_run a.pages first 1 types.Cons) first) =
       omega (arith, ap fill_of entry) in
       subst (λ (b : NamedHeap). Agrees b (with_cons q first)) (sym opened_after) (record {
-        cons = ap (λ (n : ℕ). Some (first, 1, n)) place ∙ ap (λ (x : Thread). option_map (small_out (with_run a.pages first 1 types.Cons)) x.cons_page) (sym own);
+        cons = ap (λ (n : ℕ). Some (record { first = first; pages = 1; next = n })) place ∙ ap (λ (x : Thread). option_map (small_out (with_run a.pages first 1 types.Cons)) x.cons_page) (sym own);
         boxed = beside.boxed;
         unboxed = beside.unboxed;
         run = beside.run;

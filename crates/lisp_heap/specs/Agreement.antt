@@ -7,11 +7,12 @@ use Rattle.heap_terms.specs.declared.pages.Next.TheVariants as nexts
 use Rattle.heap_terms.specs.Heap.{NamedHeap, thread_at, entry_at, fill_of}
 use Rattle.heap_terms.specs.Layout.{page_words}
 use Rattle.heap_terms.specs.Histories.{command_at, wish_at, wished_size}
-use Rattle.heap_terms.specs.Regions.{IsRun, pages_needed}
+use Rattle.heap_terms.specs.Regions.{IsRun, IsLowestRun, pages_needed}
 use Rattle.lisp_heap.specs.declared.allocating.Lent.{Lent}
 use Rattle.lisp_heap.specs.declared.allocating.Lent.TheVariants as lents
-use Rattle.lisp_heap.specs.Parcels.{ParcelView, empty_parcel, place_of, HasRoom, HasBuilt, IsMaking}
+use Rattle.lisp_heap.specs.Parcels.{ParcelView, empty_parcel, place_of, with_cons, HasRoom, HasBuilt, IsMaking}
 use Rattle.lisp_heap.specs.View.{View, heap_of}
+use Rattle.lisp_heap.specs.declared.parcels.RegionPlace.{RegionPlace}
 
 -- how many pages the run of a page has
 abbrev pub run_pages_of : Entry → ℕ
@@ -19,12 +20,12 @@ run_pages_of Free = 0
 run_pages_of (Used ty g fill first pages) = pages
 
 -- the small region on an open page: its first page, its one page, and where its next object begins
-abbrev pub small_out : List Entry → ℕ → ℕ × ℕ × ℕ
-small_out pages page = (page, 1, page_words * page + fill_of (entry_at pages page))
+abbrev pub small_out : List Entry → ℕ → RegionPlace
+small_out pages page = record { first = page; pages = 1; next = page_words * page + fill_of (entry_at pages page) }
 
 -- an open run, which holds nothing yet
-abbrev pub run_out : List Entry → ℕ → ℕ × ℕ × ℕ
-run_out pages first = (first, run_pages_of (entry_at pages first), page_words * first)
+abbrev pub run_out : List Entry → ℕ → RegionPlace
+run_out pages first = record { first = first; pages = run_pages_of (entry_at pages first); next = page_words * first }
 
 -- A parcel has just the regions that are out for its owner, at the places to which they are filled.
 pub record Agrees (a : NamedHeap) (q : ParcelView) : Type 0 where
@@ -68,3 +69,9 @@ HasRunFor w t = (first : ℕ) × IsRun (heap_of w).pages first (pages_needed (wi
 abbrev pub Lends : View → ℕ → Lent → Type 0
 Lends old t lents.Opened = HasRunFor old t
 Lends old t lents.Exhausted = ¬ HasRunFor old t
+
+-- what `lend` makes of the parcel: a region of conses on the lowest free page is in it in place of the one that was
+-- there, or it stays
+abbrev pub Adopts : View → ParcelView → ParcelView → Lent → Type 0
+Adopts old q after lents.Opened = (first : ℕ) × IsLowestRun (heap_of old).pages first 1 × (after ≡ with_cons q first)
+Adopts old q after lents.Exhausted = after ≡ q

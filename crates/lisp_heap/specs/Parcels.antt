@@ -7,6 +7,7 @@ use Rattle.heap_terms.specs.declared.kinds.PageType.TheVariants as types
 use Rattle.heap_terms.specs.Layout.{page_words, page_type_of, size_of}
 use Rattle.heap_terms.specs.Regions.{is_small}
 use Rattle.lisp_heap.specs.declared.parcels.Making.{Making}
+use Rattle.lisp_heap.specs.declared.parcels.RegionPlace.{RegionPlace}
 
 -- a region: the type of its pages, its first page, its pages, the index at which its next object begins, and what
 -- is built there and not committed
@@ -66,8 +67,8 @@ abbrev pub HasBuilt : ParcelView → Kind → ℕ → ℕ → Type 0
 HasBuilt q kind n seed = IsSomeAnd (region_for q kind n) (λ r. r.built ≡ Some (record { kind = kind; n = n; seed = seed }))
 
 -- a region without what is built there
-abbrev pub place_of : RegionView → ℕ × ℕ × ℕ
-place_of r = (r.first, r.pages, r.next)
+abbrev pub place_of : RegionView → RegionPlace
+place_of r = record { first = r.first; pages = r.pages; next = r.next }
 
 -- the number of regions in a parcel
 abbrev pub one_if : Option RegionView → ℕ
@@ -88,3 +89,19 @@ cons_accepted r = record r { next = r.next + 2; built = None }
 -- a parcel after the cons that is built there was committed
 abbrev pub with_accepted : ParcelView → ParcelView
 with_accepted q = record q { cons = option_map cons_accepted q.cons }
+
+-- a region after an object was built there
+abbrev pub region_built : Making → RegionView → RegionView
+region_built m r = record r { built = Some m }
+
+-- a parcel after an object was built in its small region of a type
+abbrev pub small_built : ParcelView → PageType → Making → ParcelView
+small_built q types.Cons m = record q { cons = option_map (region_built m) q.cons }
+small_built q types.Boxed m = record q { boxed = option_map (region_built m) q.boxed }
+small_built q types.Unboxed m = record q { unboxed = option_map (region_built m) q.unboxed }
+
+-- a parcel after an object was built in the region of its class: what is built in the other regions stays
+abbrev pub with_built : ParcelView → Kind → ℕ → ℕ → ParcelView
+with_built q kind n seed =
+    let m : Making = record { kind = kind; n = n; seed = seed } in
+    if is_small (size_of kind n) then small_built q (page_type_of kind) m else record q { run = option_map (region_built m) q.run }

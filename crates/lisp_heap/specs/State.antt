@@ -24,11 +24,6 @@ state_page s types.Cons = s.cons_page
 state_page s types.Boxed = s.boxed_page
 state_page s types.Unboxed = s.unboxed_page
 
-abbrev pub with_state_page : ThreadState → PageType → ℕ → ThreadState
-with_state_page s types.Cons page = record s { cons_page = Some page }
-with_state_page s types.Boxed page = record s { boxed_page = Some page }
-with_state_page s types.Unboxed page = record s { unboxed_page = Some page }
-
 -- the states with one thread one command further in its script
 abbrev pub advanced : List ThreadState → ℕ → List ThreadState
 advanced states t =

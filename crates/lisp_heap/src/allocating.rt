@@ -8,21 +8,18 @@ ghost use Rattle.alloc_region.specs.View.{opened_region};
 ghost use Rattle.heap_terms.specs.declared.kinds.Kind.TheVariants as kinds;
 ghost use Rattle.heap_terms.specs.declared.kinds.PageType.TheVariants as types;
 ghost use Rattle.heap_terms.specs.Regions.{HasNoRun, IsLowestRun, place_for};
-ghost use Rattle.lisp_heap.specs.Agreement.{Agrees, IsBuiltFor, OthersAgree, Lends};
+ghost use Rattle.lisp_heap.specs.Agreement.{Adopts, Agrees, IsBuiltFor, OthersAgree, Lends};
 ghost use Rattle.lisp_heap.specs.Events.{Happens};
 ghost use Rattle.lisp_heap.specs.Parcels.{ParcelView, empty_parcel, with_accepted, with_cons};
 ghost use Rattle.lisp_heap.specs.View.{heap_of, next_of};
 
 use crate::parcels::Parcel;
 use crate::states::{advance, end_state, open_cons};
-use crate::world::World;
+use crate::world::{PAGE_WORDS, World};
 use alloc_region::Region;
 use heap_terms::{Answer, Command, Event, Kind, Memory, Owned, PageType, Refusal};
 use lisp_words::tag;
 use std::alloc::Global;
-
-/// How many words a page has.
-const PAGE_WORDS: u32 = 512;
 
 /// What `lend` did.
 #[derive(Clone, Copy, Debug, PartialEq, Eq)]
@@ -45,6 +42,7 @@ impl World {
         ensures lent { IfOk result (Lends self.old parcel.old.owner) }
         ensures agrees { OnOk result (Agrees (heap_of self.new) parcel.new) }
         ensures others { OnOk result (OthersAgree (heap_of self.old) (heap_of self.new) parcel.old.owner) }
+        ensures parcel { IfOk result (Adopts self.old parcel.old parcel.new) }
         ensures owner { parcel.new.owner ≡ parcel.old.owner }
         ensures err { OnErr result (self.new ≡ self.old) }
         ensures kept { OnErr result (parcel.new ≡ parcel.old) }
@@ -119,10 +117,12 @@ impl World {
         ensures name { IfOk result (λ name. name ≡ length (heap_of self.old).objects) }
         ensures agrees { OnOk result (Agrees (heap_of self.new) parcel.new) }
         ensures others { OnOk result (OthersAgree (heap_of self.old) (heap_of self.new) parcel.old.owner) }
+        ensures accepted { OnOk result (parcel.new ≡ with_accepted parcel.old) }
         ensures owner { parcel.new.owner ≡ parcel.old.owner }
         ensures err { OnErr result (self.new ≡ self.old) }
         ensures kept { OnErr result (parcel.new ≡ parcel.old) }
     {
+        // Looked into here, so that what follows may use what a World keeps true.
         let _program = &self.program;
         let t = parcel.owner();
         let index = parcel.next_cons();

@@ -11,9 +11,9 @@ ghost use Rattle.lisp_heap.specs.State.{state_of, state_page};
 ghost use Rattle.lisp_heap.specs.View.{heap_of};
 
 use crate::cells::CellWords;
-use crate::parcels::Parcel;
+use crate::parcels::{Parcel, RegionPlace};
 use crate::states::{ThreadState, fresh_states};
-use crate::world::World;
+use crate::world::{PAGE_WORDS, World};
 use heap_terms::{Entry, Memory, Owned, PageType, Program};
 use page_table::PageTable;
 use std::alloc::Global;
@@ -21,9 +21,6 @@ use word_space::{Prefilled, Space};
 
 /// How many double words a page has, each of which has a label.
 const PAGE_LABELS: usize = 256;
-
-/// How many words a page has.
-const PAGE_WORDS: u32 = 512;
 
 /// The parcels of so many threads, each empty.
 fn fresh_parcels(alloc: Global, threads: u32) -> Result<Vec<Parcel>, Memory>
@@ -100,7 +97,7 @@ impl World {
     {
         match (parcel.small_place(ty), state.open_page(ty)) {
             (None, None) => true,
-            (Some((first, pages, next)), Some(page)) => {
+            (Some(RegionPlace { first, pages, next }), Some(page)) => {
                 let fill = self.fill(page);
                 first == page && pages == 1 && next == PAGE_WORDS * page + fill
             }
@@ -115,7 +112,7 @@ impl World {
     {
         match (parcel.run_place(), state.open_run) {
             (None, None) => true,
-            (Some((first, pages, next)), Some(page)) => {
+            (Some(RegionPlace { first, pages, next }), Some(page)) => {
                 first == page && pages == self.run_pages(page) && next == PAGE_WORDS * page
             }
             _ => false,

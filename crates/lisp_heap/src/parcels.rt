@@ -5,17 +5,16 @@ ghost use Rattle.std.specs.Option.{ForSome};
 ghost use Rattle.heap_terms.specs.declared.kinds.Kind.TheVariants as kinds;
 ghost use Rattle.heap_terms.specs.declared.kinds.PageType.{PageType};
 ghost use Rattle.heap_terms.specs.declared.kinds.PageType.TheVariants as types;
-ghost use Rattle.heap_terms.specs.Layout.{page_type_of};
+ghost use Rattle.heap_terms.specs.Layout.{page_type_of, size_of};
+ghost use Rattle.heap_terms.specs.Regions.{is_small};
 ghost use Rattle.lisp_heap.specs.Leases.{region_view, IsLease, IsSmallLease};
-ghost use Rattle.lisp_heap.specs.Parcels.{Fits, HasRoom, HasBuilt, IsMaking, RegionView, empty_parcel, one_if, place_of, regions_in, small_region, with_accepted, with_cons};
+ghost use Rattle.lisp_heap.specs.Parcels.{Fits, HasRoom, HasBuilt, IsMaking, RegionView, empty_parcel, one_if, place_of, region_built, regions_in, small_region, with_accepted, with_built, with_cons};
 
+use crate::world::PAGE_WORDS;
 use alloc_region::Region;
 use heap_terms::{Kind, Owned, PageType};
-use lisp_words::{page_type, size_of};
+use lisp_words::page_type;
 use std::marker::Model;
-
-/// How many words a page has.
-const PAGE_WORDS: u32 = 512;
 
 /// An object to build: its kind, its words of payload and its seed.
 #[derive(Clone, Copy, Debug, PartialEq, Eq)]
@@ -26,6 +25,17 @@ pub struct Making {
     pub n: u32,
     /// What fills it: the word of each element, or a table's weakness.
     pub seed: u64,
+}
+
+/// Where a region lies that is out.
+#[derive(Clone, Copy)]
+pub(crate) struct RegionPlace {
+    /// Its first page.
+    pub first: u32,
+    /// How many pages it has.
+    pub pages: u32,
+    /// The index in words at which its next object begins.
+    pub next: u32,
 }
 
 /// A region that is out, and what is built there and not committed.
@@ -64,6 +74,17 @@ impl Owned for Parcel {
     }
 }
 
+/// Whether an object of a kind with n words of payload takes at most a page: all but a cons have a
+/// header beside their payload.
+fn is_small_object(kind: Kind, n: u32) -> bool
+    ensures { result ≡ is_small (size_of kind n) }
+{
+    match kind {
+        Kind::Cons => true,
+        _ => n < PAGE_WORDS,
+    }
+}
+
 /// Spends a region, and says how many that were.
 fn put_back(slot: Option<Lease>) -> u32
     ensures { result ≡ one_if (option_map region_view slot) }
@@ -83,7 +104,7 @@ fn build_in(slot: &mut Option<Lease>, making: Making)
     requires fits { ForSome slot.old (λ l. Fits making.kind making.n (region_view l)) }
     requires ty { ForSome slot.old (λ l. l.region.ty ≡ page_type_of making.kind) }
     requires making { IsMaking making.kind making.n making.seed }
-    ensures view { option_map region_view slot.new ≡ option_map (λ l. record (region_view l) { built = Some making }) slot.old }
+    ensures view { option_map region_view slot.new ≡ option_map (region_built making) (option_map region_view slot.old) }
     ensures lease { ForSome slot.new IsLease }
     ensures small { (ty : PageType) → ForSome slot.old (IsSmallLease ty) → ForSome slot.new (IsSmallLease ty) }
 {
@@ -99,26 +120,21 @@ fn has_built_in(slot: &Option<Lease>, making: Making) -> bool
 {
     match slot {
         None => false,
-        Some(lease) => match lease.built {
-            None => false,
-            Some(built) => {
-                built.kind == making.kind && built.n == making.n && built.seed == making.seed
-            }
-        },
+        Some(lease) => lease.built == Some(making),
     }
 }
 
-/// A region's first page, its pages, and where its next object begins.
-fn place(slot: &Option<Lease>) -> Option<(u32, u32, u32)>
+/// Where the region of a slot lies.
+fn place(slot: &Option<Lease>) -> Option<RegionPlace>
     ensures { result ≡ option_map place_of (option_map region_view slot.now) }
 {
     match slot {
         None => None,
-        Some(lease) => Some((
-            lease.region.first(),
-            lease.region.pages(),
-            lease.region.next(),
-        )),
+        Some(lease) => Some(RegionPlace {
+            first: lease.region.first(),
+            pages: lease.region.pages(),
+            next: lease.region.next(),
+        }),
     }
 }
 
@@ -141,6 +157,7 @@ impl Parcel {
     pub fn build(&mut self, kind: Kind, n: u32, seed: u64)
         requires room { HasRoom self.old kind n }
         requires making { IsMaking kind n seed }
+        ensures parcel { self.new ≡ with_built self.old kind n seed }
         ensures built { HasBuilt self.new kind n seed }
         ensures owner { self.new.owner ≡ self.old.owner }
         ensures cons { option_map place_of self.new.cons ≡ option_map place_of self.old.cons }
@@ -149,24 +166,23 @@ impl Parcel {
         ensures run { option_map place_of self.new.run ≡ option_map place_of self.old.run }
     {
         let making = Making { kind, n, seed };
-        if size_of(kind, n) > PAGE_WORDS {
-            build_in(&mut self.run, making);
-        } else {
+        if is_small_object(kind, n) {
             match page_type(kind) {
                 PageType::Cons => build_in(&mut self.cons, making),
                 PageType::Boxed => build_in(&mut self.boxed, making),
                 PageType::Unboxed => build_in(&mut self.unboxed, making),
             }
+        } else {
+            build_in(&mut self.run, making);
         }
     }
 
     /// Whether just this object is built there and not committed. It takes no memory.
     pub fn has_built(&self, kind: Kind, n: u32, seed: u64) -> bool
-        requires { n ≤ 65535 }
         ensures { IsTrue result ↔ HasBuilt self.now kind n seed }
     {
         let making = Making { kind, n, seed };
-        if size_of(kind, n) > PAGE_WORDS {
+        if !is_small_object(kind, n) {
             return has_built_in(&self.run, making);
         }
         match page_type(kind) {
@@ -191,7 +207,7 @@ impl Parcel {
     }
 
     /// The place of the small region of a type.
-    pub(crate) fn small_place(&self, ty: PageType) -> Option<(u32, u32, u32)>
+    pub(crate) fn small_place(&self, ty: PageType) -> Option<RegionPlace>
         ensures { result ≡ option_map place_of (small_region self.now ty) }
     {
         match ty {
@@ -202,7 +218,7 @@ impl Parcel {
     }
 
     /// The place of the run.
-    pub(crate) fn run_place(&self) -> Option<(u32, u32, u32)>
+    pub(crate) fn run_place(&self) -> Option<RegionPlace>
         ensures { result ≡ option_map place_of self.now.run }
     {
         place(&self.run)

@@ -51,6 +51,7 @@ impl World {
         ensures { (v : NamedValue) → IsLiving (heap_of self.now).objects v →
             word ≡ word_of (heap_of self.now).objects v → IsConsAt (heap_of self.now).objects v result }
     {
+        // Looked into here, so that what follows may use what a World keeps true.
         let _space = &self.space;
         let (index, lowtag) = untag(word)?;
         match lowtag {
@@ -87,6 +88,7 @@ impl World {
         requires c { IsCell c }
         ensures { IsOutcome (heap_of self.now) t (commands.Show c) result.answer result.change }
     {
+        // Looked into here, so that what follows may use what a World keeps true.
         let _cells = &self.cells;
         let word = self.cell(t, c);
         Outcome {
@@ -102,6 +104,7 @@ impl World {
         requires c { IsCell c }
         ensures { IsOutcome (heap_of self.now) t (commands.Get d c i) result.answer result.change }
     {
+        // Looked into here, so that what follows may use what a World keeps true.
         let _space = &self.space;
         let of = self.cell(t, c);
         let Some(index) = self.cons_at(of) else {
@@ -124,6 +127,7 @@ impl World {
         requires a { IsCell a }
         ensures { IsOutcome (heap_of self.now) t (commands.Put c i a) result.answer result.change }
     {
+        // Looked into here, so that what follows may use what a World keeps true.
         let _space = &self.space;
         let of = self.cell(t, c);
         let Some(index) = self.cons_at(of) else {
@@ -149,6 +153,7 @@ impl World {
         requires simple { next_of self.now t ≡ Next.Simple }
         ensures { IsOutcome (heap_of self.now) t command result.answer result.change }
     {
+        // Looked into here, so that what follows may use what a World keeps true.
         let _program = &self.program;
         match command {
             Command::Fix { d, n } => self.fixed(t, d, n),

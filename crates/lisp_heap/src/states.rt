@@ -2,7 +2,7 @@
 
 ghost use Rattle.std.specs.Prelude.{◌≡◌, ◌+◌, ◌<◌, ◌^◌, length, slice_get, replicate, IfOk};
 ghost use Rattle.std.specs.Option.{ForSome};
-ghost use Rattle.lisp_heap.specs.State.{advanced, fresh_state, state_page, with_cons_open, with_ended, with_state_page};
+ghost use Rattle.lisp_heap.specs.State.{advanced, fresh_state, state_page, with_cons_open, with_ended};
 
 use heap_terms::{Memory, PageType, Seq};
 use std::alloc::Global;
@@ -52,19 +52,6 @@ impl ThreadState {
             PageType::Boxed => self.boxed_page,
             PageType::Unboxed => self.unboxed_page,
         }
-    }
-
-    /// The state with that page open.
-    pub fn with_open_page(self, ty: PageType, page: u32) -> ThreadState
-        ensures { result ≡ with_state_page self ty page }
-    {
-        let mut state = self;
-        match ty {
-            PageType::Cons => state.cons_page = Some(page),
-            PageType::Boxed => state.boxed_page = Some(page),
-            PageType::Unboxed => state.unboxed_page = Some(page),
-        }
-        state
     }
 }
 

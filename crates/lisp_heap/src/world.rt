@@ -24,7 +24,7 @@ use std::marker::Model;
 use word_space::{Prefilled, Space};
 
 /// How many words a page has.
-const PAGE_WORDS: u32 = 512;
+pub(crate) const PAGE_WORDS: u32 = 512;
 
 /// A script's heap: its words, pages, cells and history.
 #[derive(Drop)]

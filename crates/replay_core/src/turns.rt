@@ -95,8 +95,8 @@ fn collect(world: &mut World, parcel: &mut Parcel) -> Result<Stepped, Memory>
     ensures owner { parcel.new.owner ≡ parcel.old.owner }
     ensures err { OnErr result (world.new ≡ world.old) }
 {
+    // That a history is lawful is what rules this turn out.
     let _history = world.history();
-    let _ = parcel;
     unreachable!()
 }
 
