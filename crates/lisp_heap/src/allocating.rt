@@ -15,9 +15,9 @@ ghost use Rattle.lisp_heap.specs.View.{heap_of, next_of};
 
 use crate::parcels::Parcel;
 use crate::states::{advance, end_state, open_cons};
-use crate::world::{PAGE_WORDS, World};
+use crate::world::World;
 use alloc_region::Region;
-use heap_terms::{Answer, Command, Event, Kind, Memory, Owned, PageType, Refusal};
+use heap_terms::{Answer, Command, Event, Kind, Memory, Owned, PAGE_WORDS, PageType, Refusal};
 use lisp_words::tag;
 use std::alloc::Global;
 

@@ -10,9 +10,8 @@ ghost use Rattle.heap_terms.specs.Regions.{is_small};
 ghost use Rattle.lisp_heap.specs.Leases.{region_view, IsLease, IsSmallLease};
 ghost use Rattle.lisp_heap.specs.Parcels.{Fits, HasRoom, HasBuilt, IsMaking, RegionView, empty_parcel, one_if, place_of, region_built, regions_in, small_region, with_accepted, with_built, with_cons};
 
-use crate::world::PAGE_WORDS;
 use alloc_region::Region;
-use heap_terms::{Kind, Owned, PageType};
+use heap_terms::{Kind, Owned, PAGE_WORDS, PageType};
 use lisp_words::page_type;
 use std::marker::Model;
 

@@ -17,14 +17,11 @@ ghost use Rattle.lisp_heap.specs.View.{heap_of, next_of};
 use crate::cells::CellWords;
 use crate::outcome::{Outcome, apply};
 use crate::states::{States, ThreadState, advance};
-use heap_terms::{Command, Entry, Event, Kind, Memory, Next, Program};
+use heap_terms::{Command, Entry, Event, Kind, Memory, Next, PAGE_WORDS, Program};
 use page_table::PageTable;
 use std::alloc::Global;
 use std::marker::Model;
 use word_space::{Prefilled, Space};
-
-/// How many words a page has.
-pub(crate) const PAGE_WORDS: u32 = 512;
 
 /// A script's heap: its words, pages, cells and history.
 #[derive(Drop)]
