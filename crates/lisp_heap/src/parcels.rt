@@ -158,11 +158,6 @@ impl Parcel {
         requires making { IsMaking kind n seed }
         ensures parcel { self.new ≡ with_built self.old kind n seed }
         ensures built { HasBuilt self.new kind n seed }
-        ensures owner { self.new.owner ≡ self.old.owner }
-        ensures cons { option_map place_of self.new.cons ≡ option_map place_of self.old.cons }
-        ensures boxed { option_map place_of self.new.boxed ≡ option_map place_of self.old.boxed }
-        ensures unboxed { option_map place_of self.new.unboxed ≡ option_map place_of self.old.unboxed }
-        ensures run { option_map place_of self.new.run ≡ option_map place_of self.old.run }
     {
         let making = Making { kind, n, seed };
         if is_small_object(kind, n) {
