@@ -15,6 +15,13 @@ const FIRST: &str =
 const FIRST_JOURNAL: &str =
     "0 fix s0 5 -> ok\n0 fix s1 -6 -> ok\n0 open cons 0 1\n0 cons b0 s0 s1 -> #0 @0\n0 get s2 b0 0 -> 5\n0 put b0 1 s0 -> ok\n0 get s2 b0 1 -> 5\n0 show b0 -> #0\n0 end\ndone 9\n";
 
+// Three threads share a cell, and a schedule gives turns; then they take turns from thread 0 on.
+const THREE_THREADS: &str =
+    "lispheap 1\nheap 4\nthread\nfix s0 7\ncons g0 s0 s0\nget b0 g0 0\nthread\ncons b1 g0 g0\nshow b1\nthread\nshow g0\nput g0 1 g0\nschedule 0*5 2*2 1\nend\n";
+
+const THREE_THREADS_JOURNAL: &str =
+    "0 fix s0 7 -> ok\n0 open cons 0 1\n0 cons g0 s0 s0 -> #0 @0\n0 get b0 g0 0 -> 7\n0 end\n2 show g0 -> #0\n2 put g0 1 g0 -> ok\n1 open cons 1 1\n1 cons b1 g0 g0 -> #1 @512\n2 end\n1 show b1 -> #1\n1 end\ndone 12\n";
+
 // What one call does: its status, what was written, and what was said.
 #[derive(Drop)]
 struct Ended {
@@ -76,6 +83,7 @@ fn assert_replay(
 fn scripts_give_their_journals(rt: HostRuntime) -> Result<(), Fail> {
     for (input, journal) in [
         (FIRST, FIRST_JOURNAL),
+        (THREE_THREADS, THREE_THREADS_JOURNAL),
         (
             "lispheap 1\nheap 1\nthread\nthread\nend\n",
             "0 end\n1 end\ndone 2\n",
