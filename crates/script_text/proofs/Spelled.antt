@@ -1,13 +1,12 @@
 -- Fields in their usual spelling.
-use Rattle.std.proofs.Common.{◌≡◌, ℕ, ◌+◌, ◌-◌, ◌*◌, ◌≤◌, ◌<◌, suc, true, false, eqb, ltb, leb, ◌||◌, List, [], ◌∷◌, ◌++◌, nat_lt, length, take, drop, get_or, Some, Ok, Err, refl, sym, ap, ◌∙◌, subst, arith, inl, inr}
+use Rattle.std.proofs.Common.{◌≡◌, ℕ, ◌+◌, ◌-◌, ◌*◌, ◌≤◌, ◌<◌, suc, true, false, eqb, ltb, leb, ◌||◌, List, [], ◌∷◌, ◌++◌, nat_lt, length, take, drop, get_or, Some, Ok, refl, sym, ap, ◌∙◌, subst, arith, inl, inr}
 use Rattle.std.specs.Char.{is_digit, digit_value}
-use Rattle.std.proofs.lemmas.Bool.{ne_eqb, or_cases, and_parts, eqb-true, ltb-true, lt-ltb, le-ltb, le-leb}
+use Rattle.std.proofs.lemmas.Bool.{ne_eqb, or_cases, and_parts, eqb-true, ltb-true, lt-ltb, le-leb}
 use Rattle.std.proofs.lemmas.List.{take_at, drop_at, length-append, get_or-append-add}
 use Rattle.std.specs.List.{list_all}
 use Rattle.std.proofs.lemmas.Str.{digit_value_digit}
 use Rattle.heap_terms.specs.declared.cells.Cell.{Cell}
 use Rattle.heap_terms.specs.declared.cells.Cell.TheVariants.{Stack, Exact, Shared}
-use Rattle.heap_terms.specs.declared.faults.Why.TheVariants.{Range}
 use Rattle.heap_terms.specs.Fields.{fields_of, is_blank, number_of, cell_number, cell_of, turns_of}
 use Rattle.script_text.specs.Commands.{an_index}
 use Rattle.script_text.specs.Left.{ends_field, field_len, fields_left, Taken, IsSolidWord}
@@ -185,14 +184,6 @@ digit_turn threads d small lt =
     let star : eqb (d + 48) 42 ≡ false = ne_eqb (d + 48) 42 (λ (e : d + 48 ≡ 42). omega arith) in
     let below : ltb d threads ≡ true = lt-ltb d threads lt in
     rw (star, n, below) refl
-
-pub digit_turn_bad : (threads d : ℕ) → d < 10 → threads ≤ d → turns_of threads ((d + 48) ∷ []) ≡ Err Range
-unfolding turns_of
-digit_turn_bad threads d small le =
-    let n : number_of ((d + 48) ∷ []) ≡ Some d = number_one (d + 48) (omega arith) (omega arith) ∙ ap (λ (x : ℕ). Some x) (omega arith) in
-    let star : eqb (d + 48) 42 ≡ false = ne_eqb (d + 48) 42 (λ (e : d + 48 ≡ 42). omega arith) in
-    let above : ltb d threads ≡ false = le-ltb d threads le in
-    rw (star, n, above) refl
 
 -- what stands behind a cell's kind
 abbrev pub Behind : List ℕ → ℕ → List ℕ → Type 0

@@ -12,7 +12,7 @@ ghost use Rattle.script_text.specs.Words.{text_of_name};
 ghost use Rattle.script_text.specs.Commands.{Moved, but_first, in_first, a_cell, an_index};
 
 use crate::plain::{plain_cell, plain_digit, plain_name};
-use crate::values::{Turns, cell, fixnum, number_up_to, turn_of_digit, turns_in};
+use crate::values::{Turns, cell, fixnum, number_up_to, turns_in};
 use crate::words::Name;
 use heap_terms::{Cell, Why};
 use std::marker::Model;
@@ -203,14 +203,24 @@ impl<'a> Cursor<'a> {
         self.has_fields(0)
     }
 
+    /// The thread of the next field of a schedule, where that is one digit in its usual spelling.
+    #[tactic(auto, using(crate::proofs::Spelled::digit_turn))]
+    pub(crate) fn plain_turn(&mut self, threads: u32) -> Option<u32>
+        ensures { MatchOption result (self.new ≡ self.old) (λ thread. Taken self.old ((thread + 48) ∷ []) self.new × (turns_of threads ((thread + 48) ∷ []) ≡ Ok (thread ∷ []))) }
+    {
+        let (digit, after) = plain_digit(self.rest)?;
+        let thread = u32::from(digit);
+        if thread >= threads {
+            return None;
+        }
+        self.rest = after;
+        Some(thread)
+    }
+
     /// The turns of the next field of a schedule, in a script with so many threads.
     pub(crate) fn turns(&mut self, threads: u32) -> Option<Result<Turns, Why>>
         ensures { MatchOption result (NoneLeft self.old self.new) (λ turns. (field : List ℕ) × Taken self.old field self.new × (one_by_one turns ≡ turns_of threads field)) }
     {
-        if let Some((digit, after)) = plain_digit(self.rest) {
-            self.rest = after;
-            return Some(turn_of_digit(digit, threads));
-        }
         match self.next_field() {
             Some(field) => Some(turns_in(field, threads)),
             None => None,

@@ -36,6 +36,26 @@ fn check_turns(threads: u32, left: &mut Cursor) -> Result<(), Why>
     Ok(())
 }
 
+/// Adds the turns of fields that are one digit each, up to the first that is not, or to the limit.
+fn add_plain_turns(
+    schedule: &mut Vec<u32>,
+    threads: u32,
+    left: &mut Cursor,
+) -> Result<(), AllocFailed<u32>>
+    requires { length schedule.old.items ≤ 1000000 }
+    ensures turns { OnOk result (turns_behind schedule.old.items threads (fields_left left.old) ≡ turns_behind schedule.new.items threads (fields_left left.new)) }
+    ensures most { length schedule.new.items ≤ 1000000 }
+    ensures lines { OnOk result (lines_after left.new ≡ lines_after left.old) }
+{
+    while schedule.len() < MOST_TURNS {
+        let Some(thread) = left.plain_turn(threads) else {
+            return Ok(());
+        };
+        schedule.push(thread)?;
+    }
+    Ok(())
+}
+
 /// Adds the turns of the fields that are left. All fields are judged before the limit.
 pub(crate) fn add_turns(
     schedule: &mut Vec<u32>,
@@ -47,6 +67,7 @@ pub(crate) fn add_turns(
     ensures most { length schedule.new.items ≤ 1000000 }
     ensures lines { OnOk result (lines_after left.new ≡ lines_after left.old) }
 {
+    add_plain_turns(schedule, threads, left)?;
     while let Some(turns) = left.turns(threads) {
         let turns = turns?;
         if turns.count as usize > MOST_TURNS - schedule.len() {

@@ -207,20 +207,6 @@ fn place_of_star(field: &[u8]) -> Option<usize>
     field.iter().position(|b| *b == b'*')
 }
 
-/// A digit in a schedule, which is a thread's number, for one turn.
-#[tactic(auto, using(crate::proofs::Spelled::digit_turn, crate::proofs::Spelled::digit_turn_bad))]
-pub(crate) fn turn_of_digit(digit: u8, threads: u32) -> Result<Turns, Why>
-    requires { digit < 10 }
-    ensures { one_by_one result ≡ turns_of threads ((digit + 48) ∷ []) }
-{
-    let thread = u32::from(digit);
-    if thread < threads {
-        Ok(Turns { thread, count: 1 })
-    } else {
-        Err(Why::Range)
-    }
-}
-
 /// A field of a schedule, in a script with so many threads.
 pub(crate) fn turns_in(field: &[u8], threads: u32) -> Result<Turns, Why>
     ensures { one_by_one result ≡ turns_of threads field.now }
