@@ -55,7 +55,7 @@ impl<P: Owned> Play<Option<P>, View> for Parks<P> {
     ghost then = { ParkedIn P.owner_of };
 }
 
-/// A thread claims the turn of the holder.
+/// A thread asks for the turn to collect.
 pub struct Claims<P> {
     marker: PhantomData<P>,
 }
@@ -64,7 +64,7 @@ impl<P: Owned> Play<Option<P>, View> for Claims<P> {
     ghost then = { Claimed P.owner_of };
 }
 
-/// The holder posts a stop to the next thread.
+/// The holder of the turn posts a stop to another thread.
 pub struct Posts<P> {
     marker: PhantomData<P>,
 }
@@ -73,7 +73,7 @@ impl<P: Owned> Play<Option<P>, View> for Posts<P> {
     ghost then = { Posted P.owner_of };
 }
 
-/// The holder looks whether the next thread has parked.
+/// The holder of the turn looks whether another thread has parked.
 pub struct Looks<P> {
     marker: PhantomData<P>,
 }
@@ -82,7 +82,7 @@ impl<P: Owned> Play<Option<P>, View> for Looks<P> {
     ghost then = { Looked P.owner_of };
 }
 
-/// The holder releases the next thread.
+/// The holder of the turn takes its stop to another thread back.
 pub struct Releases<P> {
     marker: PhantomData<P>,
 }
@@ -91,7 +91,7 @@ impl<P: Owned> Play<Option<P>, View> for Releases<P> {
     ghost then = { Released P.owner_of };
 }
 
-/// The holder gives its turn back.
+/// The holder gives the turn back.
 pub struct Returns<P> {
     marker: PhantomData<P>,
 }
