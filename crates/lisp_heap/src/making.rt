@@ -52,6 +52,7 @@ impl World {
         let states = fresh_states(alloc, threads)?;
         let parcels = fresh_parcels(alloc, threads as u32)?;
         let world = World {
+            alloc,
             program,
             space,
             pages,

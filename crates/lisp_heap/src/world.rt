@@ -28,6 +28,8 @@ use word_space::{Prefilled, Space};
 /// A script's heap: its words, pages, cells and history.
 #[derive(Drop)]
 pub struct World {
+    /// Regions are opened with it.
+    pub(crate) alloc: Global,
     pub(crate) program: Program,
     pub(crate) space: Space,
     pub(crate) pages: PageTable,

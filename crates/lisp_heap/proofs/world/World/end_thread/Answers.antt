@@ -37,6 +37,7 @@ end_state-requires c =
 -- the fields after the call
 abbrev made : goal.After-end_state → Inside
 made c = record {
+  alloc = c.self.inside.alloc;
   program = c.self.inside.program;
   space = c.self.inside.space;
   pages = c.self.inside.pages;

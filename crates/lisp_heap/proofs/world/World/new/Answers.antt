@@ -9,6 +9,7 @@ use Rattle.lisp_heap.proofs.world.World.new.Goals as goal
 pub invariant_of-world : goal.invariant_of-world
 invariant_of-world c =
     let s : Inside = record {
+      alloc = c.args.alloc;
       program = c.args.program;
       space = c.in_ok-space.space;
       pages = c.in_ok-pages.pages;

@@ -37,6 +37,7 @@ open_cons-requires c =
 -- the fields after the call
 abbrev made : goal.After-open_cons → Inside
 made c = record {
+  alloc = c.self.inside.alloc;
   program = c.self.inside.program;
   space = c.self.inside.space;
   pages = c.take_run.new.self;

@@ -45,6 +45,7 @@ advance-requires-clause-room c =
 -- the fields after the call
 abbrev made : goal.After-advance → Inside
 made c = record {
+  alloc = c.self.inside.alloc;
   program = c.self.inside.program;
   space = c.apply.new.space;
   pages = c.self.inside.pages;

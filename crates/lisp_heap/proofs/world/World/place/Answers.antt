@@ -145,17 +145,6 @@ set_fill-requires-clause-most c =
     let place = subst (λ (w : View). c.args.index ≡ place_for (heap_of w) c.args.t kinds.Cons 2) (sym c.self.view_is) c.requires.place in
     fill_room s c.self.invariant c.args.t c.in-NewCons.d c.in-NewCons.a c.in-NewCons.b c.args.index lt at builds place
 
-pub tag-requires : goal.tag-requires
-tag-requires c =
-    let s = c.self.inside in
-    let lt = thread_in s c.args.self.now c.self.view_is c.args.t c.requires.thread in
-    let at : command_at s.program (heap s) c.args.t ≡ Some (commands.NewCons c.in-NewCons.d c.in-NewCons.a c.in-NewCons.b) =
-    subst (λ (w : View). command_at w.program (heap_of w) c.args.t ≡ Some (commands.NewCons c.in-NewCons.d c.in-NewCons.a c.in-NewCons.b)) (sym c.self.view_is)
-    (sym c.command.ensures ∙ c.in-NewCons.ensures) in
-    let builds = subst (λ (w : View). next_of w c.args.t ≡ nexts.Build kinds.Cons 2 0) (sym c.self.view_is) c.requires.builds in
-    let place = subst (λ (w : View). c.args.index ≡ place_for (heap_of w) c.args.t kinds.Cons 2) (sym c.self.view_is) c.requires.place in
-    omega (arith, index_below s c.self.invariant c.args.t c.in-NewCons.d c.in-NewCons.a c.in-NewCons.b c.args.index lt at builds place)
-
 pub write-requires-3-clause-cell : goal.write-requires-3-clause-cell
 write-requires-3-clause-cell c =
     let s = c.self.inside in
@@ -225,6 +214,7 @@ advance-requires-clause-room c =
 -- the fields after the call
 abbrev made : goal.After-advance → Inside
 made c = record {
+  alloc = c.self.inside.alloc;
   program = c.self.inside.program;
   space = c.write-2.new.self;
   pages = c.set_fill.new.self;
