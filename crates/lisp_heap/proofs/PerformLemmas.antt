@@ -14,7 +14,8 @@ use Rattle.heap_terms.specs.Words.{word_of}
 use Rattle.heap_laws.proofs.AtPlaces.{IfSome-at, IfSome-from, set_cases}
 use Rattle.lisp_heap.specs.CellsView.{CellsView}
 use Rattle.lisp_heap.specs.Outcome.{Makes, cells_after, words_after}
-use Rattle.lisp_heap.specs.Standing.{Parts, Holds, CellsStand, LabelsStand}
+use Rattle.lisp_heap.specs.Parts.{Parts}
+use Rattle.lisp_heap.specs.Standing.{Holds, CellsStand, LabelsStand}
 use Rattle.lisp_heap.specs.State.{state_of}
 use Rattle.lisp_heap.specs.declared.outcome.Change.{Change}
 use Rattle.lisp_heap.specs.declared.outcome.Change.TheVariants as changes

@@ -33,7 +33,8 @@ use Rattle.lisp_heap.specs.Agreement.{Agrees, small_out}
 use Rattle.lisp_heap.specs.CellsView.{with_cell_word, CellsView}
 use Rattle.lisp_heap.specs.Parcels.{ParcelView, RegionView, place_of, with_accepted, cons_accepted}
 use Rattle.lisp_heap.specs.Sound.{IsSound}
-use Rattle.lisp_heap.specs.Standing.{Parts, Holds, CellsStand, LabelsStand}
+use Rattle.lisp_heap.specs.Parts.{Parts}
+use Rattle.lisp_heap.specs.Standing.{Holds, CellsStand, LabelsStand}
 use Rattle.lisp_heap.specs.State.{state_of, advanced, fresh_state}
 use Rattle.lisp_heap.specs.declared.parcels.RegionPlace.{RegionPlace}
 use Rattle.lisp_heap.specs.declared.states.ThreadState.{ThreadState}

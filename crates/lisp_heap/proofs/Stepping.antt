@@ -23,7 +23,8 @@ use Rattle.lisp_heap.specs.Events.{Happens}
 use Rattle.lisp_heap.specs.Outcome.{IsOutcome, Makes, CanChange}
 use Rattle.lisp_heap.specs.Parcels.{ParcelView}
 use Rattle.lisp_heap.specs.Sound.{IsSound, view_of, parts_of}
-use Rattle.lisp_heap.specs.Standing.{Parts, Holds}
+use Rattle.lisp_heap.specs.Parts.{Parts}
+use Rattle.lisp_heap.specs.Standing.{Holds}
 use Rattle.lisp_heap.specs.State.{state_of, advanced, fresh_state}
 use Rattle.lisp_heap.specs.View.{View, heap_of}
 use Rattle.lisp_heap.specs.declared.outcome.Change.{Change}
@@ -58,10 +59,10 @@ sound_after s r e h program history lawful holds =
     record { valid = there.valid; lawful = there.lawful; holds = there.holds }
 
 pub happens_after : (s r : Inside) (w : View) (t : ℕ) (e : Event) → view_of s ≡ w → r.program ≡ s.program → r.history.items ≡ s.history.items ++ e ∷ [] →
-    thread_of e ≡ t → IsNext s.program (heap s) e → Happens t w (view_of r)
-happens_after s r w t e view program history thread lawful =
+    thread_of e ≡ t → IsNext s.program (heap s) e → IsSound r → Happens t w (view_of r)
+happens_after s r w t e view program history thread lawful sound =
     subst (λ (x : View). Happens t x (view_of r)) view
-    (record { event = e; thread = thread; lawful = lawful; program = program; history = history })
+    (record { event = e; thread = thread; lawful = lawful; program = program; history = history; stands = sound.holds })
 
 -- the heap after it
 pub heap_after : (s r : Inside) (e : Event) → r.program ≡ s.program → r.history.items ≡ s.history.items ++ e ∷ [] →

@@ -9,6 +9,10 @@ pub record CellsView : Type 0 where
   pub exact : List ℕ
   pub shared : List ℕ
 
+-- the cells of so many threads, each the fixnum 0
+abbrev pub zero_cells : ℕ → CellsView
+zero_cells threads = record { stack = replicate (16 * threads) 0; exact = replicate (16 * threads) 0; shared = replicate 16 0 }
+
 -- where cell i of thread t stands among those of all threads
 abbrev pub spot : ℕ → ℕ → ℕ
 spot t i = 16 * t + i

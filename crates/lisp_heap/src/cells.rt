@@ -2,7 +2,7 @@
 
 ghost use Rattle.std.specs.Prelude.{◌≡◌, ◌+◌, ◌*◌, ◌<◌, ◌≤◌, ◌^◌, ℕ, length, replicate, IfOk, slice_index, slice_set};
 ghost use Rattle.heap_terms.specs.Valid.{IsCell};
-ghost use Rattle.lisp_heap.specs.CellsView.{cell_word, with_cell_word, with_cleared, cleared};
+ghost use Rattle.lisp_heap.specs.CellsView.{cell_word, with_cell_word, with_cleared, cleared, zero_cells};
 
 use heap_terms::{Cell, Memory};
 use std::alloc::Global;
@@ -50,7 +50,7 @@ impl CellWords {
     /// The cells of so many threads, each the fixnum 0.
     pub fn new(alloc: Global, threads: usize) -> Result<CellWords, Memory>
         requires { threads ≤ 8 }
-        ensures { IfOk result (λ cells. cells ≡ record { stack = replicate (16 * threads) 0; exact = replicate (16 * threads) 0; shared = replicate 16 0 }) }
+        ensures { IfOk result (λ cells. cells ≡ zero_cells threads) }
     {
         Ok(CellWords {
             stack: zeros(alloc, CELLS * threads)?,

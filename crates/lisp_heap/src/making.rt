@@ -7,6 +7,7 @@ ghost use Rattle.heap_terms.specs.Heap.{entry_at, fill_of, thread_at};
 ghost use Rattle.heap_terms.specs.Valid.{IsValid};
 ghost use Rattle.lisp_heap.specs.Agreement.{Agrees, AreFresh, run_out, run_pages_of, small_out};
 ghost use Rattle.lisp_heap.specs.Parcels.{place_of, small_region};
+ghost use Rattle.lisp_heap.specs.Parts.{fresh_parts};
 ghost use Rattle.lisp_heap.specs.State.{state_of, state_page};
 ghost use Rattle.lisp_heap.specs.View.{heap_of};
 
@@ -40,6 +41,7 @@ impl World {
         requires { IsValid program }
         ensures program { IfOk result (λ made. made.0.program ≡ program) }
         ensures history { IfOk result (λ made. made.0.history ≡ []) }
+        ensures parts { IfOk result (λ made. made.0.parts ≡ fresh_parts program) }
         ensures parcels { IfOk result (λ made. AreFresh made.1.items (length program.threads)) }
     {
         let threads = program.threads.len();
@@ -50,6 +52,7 @@ impl World {
         let states = fresh_states(alloc, threads)?;
         let parcels = fresh_parcels(alloc, threads as u32)?;
         let world = World {
+            alloc,
             program,
             space,
             pages,

@@ -26,9 +26,8 @@ pub enum Lowtag {
     Other,
 }
 
-/// The word of a reference to an object of a kind that starts at an index below 524,288.
+/// The word of a reference to an object of a kind that starts at an index.
 pub fn tag(index: u32, kind: Kind) -> u64
-    requires { index < 524288 }
     ensures { result ≡ reference_word index kind }
 {
     BASE + 8 * u64::from(index) + bits(kind)
