@@ -2,7 +2,7 @@
 
 ghost use Rattle.std.specs.Prelude.{◌≡◌, ◌<◌, [], length, OnErr, IfOk};
 ghost use Rattle.heap_terms.specs.Valid.{IsValid};
-ghost use Rattle.replay_core.specs.Stepping.{Steps};
+ghost use Rattle.replay_core.specs.Stepping.{Steps, Turns};
 
 use crate::turns::turn;
 use heap_terms::{Memory, Program, WordLine};
@@ -70,9 +70,23 @@ impl Machine {
 
     /// One turn of thread t. For want of memory the machine is as it was, and the turn may be
     /// tried again.
+    #[inline(always)]
     pub fn step(&mut self, t: u32) -> Result<Stepped, Memory>
         requires { t < length self.old.program.threads }
         ensures ok { IfOk result (Steps t self.old self.new) }
+        ensures err { OnErr result (self.new ≡ self.old) }
+    {
+        if self.turn(t)? {
+            Ok(Stepped::Happened)
+        } else {
+            Ok(Stepped::Ended)
+        }
+    }
+
+    /// The same turn, with an answer of two bytes: whether something happened.
+    pub(crate) fn turn(&mut self, t: u32) -> Result<bool, Memory>
+        requires { t < length self.old.program.threads }
+        ensures ok { IfOk result (Turns t self.old self.new) }
         ensures err { OnErr result (self.new ≡ self.old) }
     {
         let parcel = &mut self.parcels[t as usize];

@@ -3,7 +3,7 @@ use Rattle.lisp_heap.specs.Agreement.{OthersAgree}
 use Rattle.lisp_heap.specs.Parcels.{ParcelView}
 use Rattle.lisp_heap.specs.View.{View, heap_of}
 use Rattle.replay_core.proofs.Ready.{ready_after, turn-program}
-use Rattle.replay_core.proofs.machine.Machine.step.Goals as goal
+use Rattle.replay_core.proofs.machine.Machine.turn.Goals as goal
 
 pub invariant_of-self : goal.invariant_of-self
 invariant_of-self c =
