@@ -110,7 +110,8 @@ turns_of_parts threads (thread ∷ []) = ranged (λ t. nat_lt t threads) (number
 turns_of_parts threads (thread ∷ count ∷ []) =
     ok_or (number_of thread) Form >>= λ t. ok_or (number_of count) Form >>= λ k.
     if nat_lt t threads && between 1 65535 k then Ok (replicate k t) else Err Range
-turns_of_parts threads _ = Err Form
+turns_of_parts threads [] = Err Form
+turns_of_parts threads (thread ∷ count ∷ more ∷ parts) = Err Form
 
 unfoldable pub turns_of : ℕ → List ℕ → Result (List ℕ) Why
 turns_of threads field = turns_of_parts threads (slice_split (λ b. b == 42) field)

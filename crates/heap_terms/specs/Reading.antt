@@ -88,7 +88,9 @@ limit_passed p (HeapOf n) = unless_above 1024 n limits.Pages
 limit_passed p NewThread = unless_above 8 (length p.threads + 1) limits.Threads
 limit_passed p (Does c) = limit_of_command p.threads (is_gc c)
 limit_passed p (Turns ts) = unless_above 1000000 (length p.schedule + length ts) limits.Schedule
-limit_passed p _ = None
+limit_passed p Version = None
+limit_passed p (AutoOf n) = None
+limit_passed p EndOfScript = None
 
 -- the lines so far and one more, which has passed every check but the limits
 abbrev pub unless_passed : SoFar → Statement → Option LimitKind → Result SoFar Refused

@@ -120,12 +120,76 @@ pub record IsCommand (c : Command) : Type 0 where
 -- until generations are built a `gc` names generation 0 alone
 abbrev pub NamesYoungest : Command → Type 0
 NamesYoungest (Collect g) = g ≡ 0
-NamesYoungest _ = Unit {0}
+NamesYoungest (Fix d n) = Unit {0}
+NamesYoungest (MakeNil d) = Unit {0}
+NamesYoungest (Move d c) = Unit {0}
+NamesYoungest (NewCons d a b) = Unit {0}
+NamesYoungest (NewVector d n) = Unit {0}
+NamesYoungest (NewInstance d n) = Unit {0}
+NamesYoungest (NewClosure d n) = Unit {0}
+NamesYoungest (NewWords d n w) = Unit {0}
+NamesYoungest (NewWeak d c) = Unit {0}
+NamesYoungest (NewTable d w b) = Unit {0}
+NamesYoungest (Get d c i) = Unit {0}
+NamesYoungest (Put c i a) = Unit {0}
+NamesYoungest (RawGet r c i) = Unit {0}
+NamesYoungest (RawPut c i r) = Unit {0}
+NamesYoungest (Same a b) = Unit {0}
+NamesYoungest (Show c) = Unit {0}
+NamesYoungest (Addr r c) = Unit {0}
+NamesYoungest (SetRaw r w) = Unit {0}
+NamesYoungest (AddRaw r k) = Unit {0}
+NamesYoungest (Pin c) = Unit {0}
+NamesYoungest Unpin = Unit {0}
+NamesYoungest (WeakVal d c) = Unit {0}
+NamesYoungest (TablePut c k v) = Unit {0}
+NamesYoungest (TableGet d c k) = Unit {0}
+NamesYoungest (TableRem c k) = Unit {0}
+NamesYoungest (TableCount c) = Unit {0}
+NamesYoungest (Finalize c id) = Unit {0}
+NamesYoungest (Cancel c) = Unit {0}
+NamesYoungest RunFinalizers = Unit {0}
+NamesYoungest Inhibit = Unit {0}
+NamesYoungest Allow = Unit {0}
+NamesYoungest (ShowPage p) = Unit {0}
+NamesYoungest (Stat g) = Unit {0}
 
 -- whether a command is `gc`
 abbrev pub is_gc : Command → Bool
 is_gc (Collect g) = true
-is_gc _ = false
+is_gc (Fix d n) = false
+is_gc (MakeNil d) = false
+is_gc (Move d c) = false
+is_gc (NewCons d a b) = false
+is_gc (NewVector d n) = false
+is_gc (NewInstance d n) = false
+is_gc (NewClosure d n) = false
+is_gc (NewWords d n w) = false
+is_gc (NewWeak d c) = false
+is_gc (NewTable d w b) = false
+is_gc (Get d c i) = false
+is_gc (Put c i a) = false
+is_gc (RawGet r c i) = false
+is_gc (RawPut c i r) = false
+is_gc (Same a b) = false
+is_gc (Show c) = false
+is_gc (Addr r c) = false
+is_gc (SetRaw r w) = false
+is_gc (AddRaw r k) = false
+is_gc (Pin c) = false
+is_gc Unpin = false
+is_gc (WeakVal d c) = false
+is_gc (TablePut c k v) = false
+is_gc (TableGet d c k) = false
+is_gc (TableRem c k) = false
+is_gc (TableCount c) = false
+is_gc (Finalize c id) = false
+is_gc (Cancel c) = false
+is_gc RunFinalizers = false
+is_gc Inhibit = false
+is_gc Allow = false
+is_gc (ShowPage p) = false
+is_gc (Stat g) = false
 
 -- A program that a script can be read as: one to eight threads, 1 to 1,024 pages, at most 20,000 commands and
 -- 64 `gc` among them, at most 1,000,000 turns. Until `auto` and generations are built the number of `auto` and

@@ -96,6 +96,7 @@ module _ (s : Inside) (h : IsSound s) (t : ℕ) (c : Command) (first : ℕ) (lt 
         words = record {
           long = h.holds.words.long ∙ ap (λ n. page_words * n) (sym long);
           spelled = h.holds.words.spelled;
+          kept = h.holds.words.kept;
           fillers = no_fillers s.program opened_heap s.space opened_well_formed;
         };
         pages = ap (λ (ps : List Entry). with_run ps first 1 types.Cons) h.holds.pages;

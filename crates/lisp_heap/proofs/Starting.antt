@@ -28,6 +28,7 @@ unfolding start
 start_words p = record {
   long = length-replicate (page_words * p.pages) 0 ∙ ap (λ (n : ℕ). page_words * n) (sym (length-replicate p.pages Free));
   spelled = λ name. tt;
+  kept = λ name. tt;
   fillers = no_fillers p (start p) (replicate (page_words * p.pages) 0) (start-well_formed p);
 }
 
