@@ -18,7 +18,7 @@ use Rattle.heap_terms.proofs.Others.{HasSameEntries}
 use Rattle.heap_terms.proofs.Standing.{after-well_formed}
 use Rattle.heap_terms.proofs.Threading.{open_page_used, open_run_used}
 use Rattle.lisp_heap.specs.Agreement.{Agrees, small_out}
-use Rattle.lisp_heap.specs.Parcels.{ParcelView, with_cons}
+use Rattle.lisp_heap.specs.ParcelView.{ParcelView, with_cons}
 use Rattle.lisp_heap.specs.Sound.{IsSound, parts_of}
 use Rattle.lisp_heap.specs.Standing.{Holds}
 use Rattle.lisp_heap.specs.State.{state_of, with_cons_open, fresh_state}
