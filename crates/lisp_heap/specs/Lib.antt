@@ -2,13 +2,13 @@ pub mod CellsView
 pub mod State
 pub mod Parts
 pub mod View
-pub mod Parcels
+pub mod ParcelView
 pub mod Agreement
 pub mod Events
 pub mod Standing
 pub mod Sound
-pub mod Outcome
+pub mod Plan
 pub mod Wishes
-pub mod Reading
+pub mod LivingWords
 pub mod Leases
 pub mod ParcelSound

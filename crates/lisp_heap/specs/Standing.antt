@@ -3,20 +3,20 @@ use Rattle.std.specs.Prelude.{◌≡◌, ℕ, ◌*◌, ◌/◌, ◌<◌, List, l
 use Rattle.heap_terms.specs.Heap.{NamedHeap, thread_at, object_at, zero_value}
 use Rattle.heap_terms.specs.Stands.{WordsStand}
 use Rattle.heap_terms.specs.Words.{word_of}
-use Rattle.lisp_heap.specs.CellsView.{CellsView, spot}
+use Rattle.lisp_heap.specs.CellsView.{CellsView, cells_each, spot}
 use Rattle.lisp_heap.specs.Parts.{Parts, page_labels}
 use Rattle.lisp_heap.specs.State.{state_of}
 
 -- each cell has the word of its value
 pub record CellsStand (a : NamedHeap) (v : CellsView) : Type 0 where
-  pub stack_length : length v.stack ≡ 16 * length a.threads
-  pub exact_length : length v.exact ≡ 16 * length a.threads
-  pub shared_length : length v.shared ≡ 16
-  pub stack : (t i : ℕ) → t < length a.threads → i < 16 →
+  pub stack_length : length v.stack ≡ cells_each * length a.threads
+  pub exact_length : length v.exact ≡ cells_each * length a.threads
+  pub shared_length : length v.shared ≡ cells_each
+  pub stack : (t i : ℕ) → t < length a.threads → i < cells_each →
       slice_index v.stack (spot t i) ≡ word_of a.objects (slice_index_or (thread_at a t).stack i zero_value)
-  pub exact : (t i : ℕ) → t < length a.threads → i < 16 →
+  pub exact : (t i : ℕ) → t < length a.threads → i < cells_each →
       slice_index v.exact (spot t i) ≡ word_of a.objects (slice_index_or (thread_at a t).exact i zero_value)
-  pub shared : (i : ℕ) → i < 16 → slice_index v.shared i ≡ word_of a.objects (slice_index_or a.shared i zero_value)
+  pub shared : (i : ℕ) → i < cells_each → slice_index v.shared i ≡ word_of a.objects (slice_index_or a.shared i zero_value)
 
 -- the label at each object's first double word is its name
 pub record LabelsStand (a : NamedHeap) (labels : List ℕ) : Type 0 where

@@ -10,7 +10,7 @@ ghost use Rattle.heap_terms.specs.declared.kinds.PageType.TheVariants as types;
 ghost use Rattle.heap_terms.specs.Regions.{HasNoRun, IsLowestRun, place_for};
 ghost use Rattle.lisp_heap.specs.Agreement.{Adopts, Agrees, IsBuiltFor, OthersAgree, Lends};
 ghost use Rattle.lisp_heap.specs.Events.{Happens};
-ghost use Rattle.lisp_heap.specs.Parcels.{ParcelView, empty_parcel, with_accepted, with_cons};
+ghost use Rattle.lisp_heap.specs.ParcelView.{ParcelView, empty_parcel, with_accepted, with_cons};
 ghost use Rattle.lisp_heap.specs.View.{heap_of, next_of};
 
 use crate::parcels::Parcel;

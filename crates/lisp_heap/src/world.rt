@@ -10,14 +10,14 @@ ghost use Rattle.heap_terms.specs.Valid.{IsValid};
 ghost use Rattle.heap_terms.specs.WellFormed.{IsWellFormed};
 ghost use Rattle.lisp_heap.specs.Agreement.{Agrees, CanBuild};
 ghost use Rattle.lisp_heap.specs.Events.{Happens};
-ghost use Rattle.lisp_heap.specs.Parcels.{ParcelView};
+ghost use Rattle.lisp_heap.specs.ParcelView.{ParcelView};
 ghost use Rattle.lisp_heap.specs.Standing.{Holds};
 ghost use Rattle.lisp_heap.specs.State.{state_of};
 ghost use Rattle.lisp_heap.specs.Wishes.{Wishes};
 ghost use Rattle.lisp_heap.specs.View.{heap_of, next_of};
 
 use crate::cells::CellWords;
-use crate::outcome::{Outcome, apply};
+use crate::plan::{Plan, apply};
 use crate::states::{States, ThreadState, advance};
 use heap_terms::{Command, Entry, Event, Kind, Memory, Next, PAGE_WORDS, Program};
 use page_table::PageTable;
@@ -157,7 +157,7 @@ impl World {
         ensures err { OnErr result (self.new ≡ self.old) }
     {
         let command = self.command(t as usize).unwrap();
-        let Outcome { answer, change } = self.outcome(t as usize, command);
+        let Plan { answer, change } = self.plan(t as usize, command);
         self.history.push(Event::Did {
             thread: t,
             command,

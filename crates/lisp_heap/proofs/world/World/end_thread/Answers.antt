@@ -5,7 +5,7 @@ use Rattle.heap_terms.specs.declared.pages.Next.TheVariants as nexts
 use Rattle.heap_terms.specs.Heap.{NamedHeap}
 use Rattle.heap_terms.specs.Histories.{after, next}
 use Rattle.lisp_heap.specs.Agreement.{Agrees}
-use Rattle.lisp_heap.specs.Parcels.{empty_parcel}
+use Rattle.lisp_heap.specs.ParcelView.{empty_parcel}
 use Rattle.lisp_heap.specs.Sound.{view_of, parts_of, IsSound}
 use Rattle.lisp_heap.specs.Standing.{Holds}
 use Rattle.lisp_heap.specs.View.{View, next_of}
@@ -22,13 +22,8 @@ thread_there s h t lt = omega (arith, (well_formed s h).threads_length)
 ends_here : (s : Inside) (w : View) (t : ℕ) → view_of s ≡ w → next_of w t ≡ nexts.End → next s.program (heap s) t ≡ nexts.End
 ends_here s w t e h = subst (λ (v : View). next_of v t ≡ nexts.End) (sym e) h
 
-pub clear-requires-clause-stack : goal.clear-requires-clause-stack
-clear-requires-clause-stack c =
-    (cells_room c.self.inside c.args.t c.self.invariant (thread_in c.self.inside c.args.self.now c.self.view_is c.args.t c.requires.thread)).0
-
-pub clear-requires-clause-exact : goal.clear-requires-clause-exact
-clear-requires-clause-exact c =
-    (cells_room c.self.inside c.args.t c.self.invariant (thread_in c.self.inside c.args.self.now c.self.view_is c.args.t c.requires.thread)).1
+pub clear-requires : goal.clear-requires
+clear-requires c = cells_room c.self.inside c.args.t c.self.invariant (thread_in c.self.inside c.args.self.now c.self.view_is c.args.t c.requires.thread)
 
 pub end_state-requires : goal.end_state-requires
 end_state-requires c =

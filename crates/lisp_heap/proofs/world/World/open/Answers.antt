@@ -7,7 +7,7 @@ use Rattle.heap_terms.specs.declared.pages.Next.TheVariants as nexts
 use Rattle.heap_terms.specs.Histories.{command_at, after}
 use Rattle.heap_terms.specs.Regions.{IsLowestRun}
 use Rattle.heap_laws.proofs.AtPlaces.{IsSome-value}
-use Rattle.lisp_heap.specs.Parcels.{with_cons}
+use Rattle.lisp_heap.specs.ParcelView.{with_cons}
 use Rattle.lisp_heap.specs.Standing.{Holds}
 use Rattle.lisp_heap.specs.Sound.{IsSound}
 use Rattle.lisp_heap.specs.View.{View, heap_of, next_of}

@@ -12,7 +12,7 @@ use Rattle.heap_terms.specs.Heap.{entry_at, thread_at}
 use Rattle.heap_terms.specs.Words.{word_of}
 use Rattle.heap_terms.specs.Cells.{cell_value}
 use Rattle.heap_laws.proofs.ValidScripts.{script_built}
-use Rattle.lisp_heap.specs.Parcels.{with_accepted}
+use Rattle.lisp_heap.specs.ParcelView.{with_accepted}
 use Rattle.lisp_heap.specs.Sound.{IsSound}
 use Rattle.lisp_heap.specs.View.{View, heap_of, next_of}
 use Rattle.lisp_heap.specs.declared.world.World.TheInside.{Inside}
@@ -156,27 +156,9 @@ write-requires-3-clause-cell c =
     let place = subst (λ (w : View). c.args.index ≡ place_for (heap_of w) c.args.t kinds.Cons 2) (sym c.self.view_is) c.requires.place in
     (are_cells s c.self.invariant c.args.t c.in-NewCons.d c.in-NewCons.a c.in-NewCons.b c.args.index lt at builds place).0
 
-pub write-requires-3-clause-stack : goal.write-requires-3-clause-stack
-write-requires-3-clause-stack c =
-    let s = c.self.inside in
-    let lt = thread_in s c.args.self.now c.self.view_is c.args.t c.requires.thread in
-    let at : command_at s.program (heap s) c.args.t ≡ Some (commands.NewCons c.in-NewCons.d c.in-NewCons.a c.in-NewCons.b) =
-    subst (λ (w : View). command_at w.program (heap_of w) c.args.t ≡ Some (commands.NewCons c.in-NewCons.d c.in-NewCons.a c.in-NewCons.b)) (sym c.self.view_is)
-    (sym c.command.ensures ∙ c.in-NewCons.ensures) in
-    let builds = subst (λ (w : View). next_of w c.args.t ≡ nexts.Build kinds.Cons 2 0) (sym c.self.view_is) c.requires.builds in
-    let place = subst (λ (w : View). c.args.index ≡ place_for (heap_of w) c.args.t kinds.Cons 2) (sym c.self.view_is) c.requires.place in
-    (cells_room s c.args.t c.self.invariant lt).0
-
-pub write-requires-3-clause-exact : goal.write-requires-3-clause-exact
-write-requires-3-clause-exact c =
-    let s = c.self.inside in
-    let lt = thread_in s c.args.self.now c.self.view_is c.args.t c.requires.thread in
-    let at : command_at s.program (heap s) c.args.t ≡ Some (commands.NewCons c.in-NewCons.d c.in-NewCons.a c.in-NewCons.b) =
-    subst (λ (w : View). command_at w.program (heap_of w) c.args.t ≡ Some (commands.NewCons c.in-NewCons.d c.in-NewCons.a c.in-NewCons.b)) (sym c.self.view_is)
-    (sym c.command.ensures ∙ c.in-NewCons.ensures) in
-    let builds = subst (λ (w : View). next_of w c.args.t ≡ nexts.Build kinds.Cons 2 0) (sym c.self.view_is) c.requires.builds in
-    let place = subst (λ (w : View). c.args.index ≡ place_for (heap_of w) c.args.t kinds.Cons 2) (sym c.self.view_is) c.requires.place in
-    (cells_room s c.args.t c.self.invariant lt).1
+pub write-requires-3-clause-room : goal.write-requires-3-clause-room
+write-requires-3-clause-room c =
+    cells_room c.self.inside c.args.t c.self.invariant (thread_in c.self.inside c.args.self.now c.self.view_is c.args.t c.requires.thread)
 
 pub overflow_add-self : goal.overflow_add-self
 overflow_add-self c =

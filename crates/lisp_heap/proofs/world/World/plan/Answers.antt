@@ -5,7 +5,7 @@ use Rattle.heap_terms.specs.Histories.{command_at}
 use Rattle.lisp_heap.specs.Sound.{view_of}
 use Rattle.lisp_heap.specs.View.{View, heap_of, next_of}
 use Rattle.lisp_heap.proofs.Commands.{one_of_four}
-use Rattle.lisp_heap.proofs.world.World.outcome.Goals as goal
+use Rattle.lisp_heap.proofs.world.World.plan.Goals as goal
 
 pub unreachable-requires : goal.unreachable-requires
 unreachable-requires c =

@@ -16,15 +16,15 @@ use Rattle.heap_terms.specs.Simple.{answer_of, effect_of, refusing, changing, fi
 use Rattle.heap_terms.specs.Valid.{IsCell, IsFixnum}
 use Rattle.heap_terms.specs.Words.{word_of}
 use Rattle.heap_terms.specs.Layout.{fixnum_word}
-use Rattle.lisp_heap.specs.Outcome.{IsOutcome}
-use Rattle.lisp_heap.specs.Reading.{IsCons}
-use Rattle.lisp_heap.specs.declared.outcome.Change.TheVariants as changes
+use Rattle.lisp_heap.specs.Plan.{IsPlan}
+use Rattle.lisp_heap.specs.LivingWords.{RefersToCons}
+use Rattle.lisp_heap.specs.declared.plan.Change.TheVariants as changes
 
 -- the two fields of a cons
-abbrev pub field_of : {objects : List (Option Object)} {v : Value} {index : ℕ} → IsCons objects v index → ℕ → Value
+abbrev pub field_of : {objects : List (Option Object)} {v : Value} {index : ℕ} → RefersToCons objects v index → ℕ → Value
 field_of k i = get_or (k.first ∷ k.second ∷ []) i zero_value
 
-pub fields_are : (objects : List (Option Object)) (v : Value) (index : ℕ) (k : IsCons objects v index) →
+pub fields_are : (objects : List (Option Object)) (v : Value) (index : ℕ) (k : RefersToCons objects v index) →
     fields_at objects v ≡ Some (k.first ∷ k.second ∷ [])
 fields_are objects v index k =
     ap (fields_at objects) k.value_is ∙ ap fields_of_object k.there ∙ ap fields_of k.cons
@@ -43,27 +43,27 @@ changing_out : (xs : List Value) (i : ℕ) (same : NamedHeap) (change : Value �
 changing_out xs i same change h = ap (λ (b : Bool). if b then change (get_or xs i zero_value) else same) (le-ltb i (length xs) h)
 
 pub fixed_is : (a : NamedHeap) (t : ℕ) (d : Cell) (n : ℤ) (word : ℕ) → IsCell d → word ≡ fixnum_word n →
-    IsOutcome a t (commands.Fix d n) answers.Done (changes.InCell d word)
+    IsPlan a t (commands.Fix d n) answers.Done (changes.InCell d word)
 unfolding answer_of effect_of
 fixed_is a t d n word ok is = record {
   answers = refl;
   makes = record { value = values.Fix n; is_cell = ok; word_is = is; effect = refl };
 }
 
-pub shown_is : (a : NamedHeap) (t : ℕ) (c : Cell) (v : Value) → v ≡ cell_value a t c → IsOutcome a t (commands.Show c) (answers.Val v) changes.Nothing
+pub shown_is : (a : NamedHeap) (t : ℕ) (c : Cell) (v : Value) → v ≡ cell_value a t c → IsPlan a t (commands.Show c) (answers.Val v) changes.Nothing
 unfolding answer_of effect_of
 shown_is a t c v is = record { answers = ap (λ (x : Value). Some (answers.Val x)) (sym is); makes = refl }
 
 pub got_none : (a : NamedHeap) (t : ℕ) (d c : Cell) (i : ℕ) → fields_at a.objects (cell_value a t c) ≡ None →
-    IsOutcome a t (commands.Get d c i) (answers.Refused NotType) changes.Nothing
+    IsPlan a t (commands.Get d c i) (answers.Refused NotType) changes.Nothing
 unfolding answer_of effect_of
 got_none a t d c i none = record {
   answers = ap (λ (o : Option (List Value)). Some (refusing o i answers.Val)) none;
   makes = ap (λ (o : Option (List Value)). changing o i a (λ v. with_cell a t d v)) none;
 }
 
-pub got_out : (a : NamedHeap) (t : ℕ) (d c : Cell) (i index : ℕ) → IsCons a.objects (cell_value a t c) index → 2 ≤ i →
-    IsOutcome a t (commands.Get d c i) (answers.Refused OutOfRange) changes.Nothing
+pub got_out : (a : NamedHeap) (t : ℕ) (d c : Cell) (i index : ℕ) → RefersToCons a.objects (cell_value a t c) index → 2 ≤ i →
+    IsPlan a t (commands.Get d c i) (answers.Refused OutOfRange) changes.Nothing
 unfolding answer_of effect_of
 got_out a t d c i index k out = record {
   answers = ap (λ (o : Option (List Value)). Some (refusing o i answers.Val)) (fields_are a.objects (cell_value a t c) index k)
@@ -72,9 +72,9 @@ got_out a t d c i index k out = record {
       ∙ changing_out (k.first ∷ k.second ∷ []) i a (λ v. with_cell a t d v) out;
 }
 
-pub got_is : (a : NamedHeap) (t : ℕ) (d c : Cell) (i index word : ℕ) (v : Value) → (k : IsCons a.objects (cell_value a t c) index) → i < 2 → IsCell d →
+pub got_is : (a : NamedHeap) (t : ℕ) (d c : Cell) (i index word : ℕ) (v : Value) → (k : RefersToCons a.objects (cell_value a t c) index) → i < 2 → IsCell d →
     v ≡ field_of k i → word ≡ word_of a.objects (field_of k i) →
-    IsOutcome a t (commands.Get d c i) (answers.Val v) (changes.InCell d word)
+    IsPlan a t (commands.Get d c i) (answers.Val v) (changes.InCell d word)
 unfolding answer_of effect_of
 got_is a t d c i index word v k low ok is word_is = record {
   answers = ap (λ (o : Option (List Value)). Some (refusing o i answers.Val)) (fields_are a.objects (cell_value a t c) index k)
@@ -89,15 +89,15 @@ got_is a t d c i index word v k low ok is word_is = record {
 }
 
 pub put_none : (a : NamedHeap) (t : ℕ) (c : Cell) (i : ℕ) (b : Cell) → fields_at a.objects (cell_value a t c) ≡ None →
-    IsOutcome a t (commands.Put c i b) (answers.Refused NotType) changes.Nothing
+    IsPlan a t (commands.Put c i b) (answers.Refused NotType) changes.Nothing
 unfolding answer_of effect_of
 put_none a t c i b none = record {
   answers = ap (λ (o : Option (List Value)). Some (refusing o i (λ _. answers.Done))) none;
   makes = ap (λ (o : Option (List Value)). changing o i a (λ _. record a { objects = with_field_at a.objects (cell_value a t c) i (cell_value a t b) })) none;
 }
 
-pub put_out : (a : NamedHeap) (t : ℕ) (c : Cell) (i : ℕ) (b : Cell) (index : ℕ) → IsCons a.objects (cell_value a t c) index → 2 ≤ i →
-    IsOutcome a t (commands.Put c i b) (answers.Refused OutOfRange) changes.Nothing
+pub put_out : (a : NamedHeap) (t : ℕ) (c : Cell) (i : ℕ) (b : Cell) (index : ℕ) → RefersToCons a.objects (cell_value a t c) index → 2 ≤ i →
+    IsPlan a t (commands.Put c i b) (answers.Refused OutOfRange) changes.Nothing
 unfolding answer_of effect_of
 put_out a t c i b index k out = record {
   answers = ap (λ (o : Option (List Value)). Some (refusing o i (λ _. answers.Done))) (fields_are a.objects (cell_value a t c) index k)
@@ -107,9 +107,9 @@ put_out a t c i b index k out = record {
       ∙ changing_out (k.first ∷ k.second ∷ []) i a (λ _. record a { objects = with_field_at a.objects (cell_value a t c) i (cell_value a t b) }) out;
 }
 
-pub put_is : (a : NamedHeap) (t : ℕ) (c : Cell) (i : ℕ) (b : Cell) (index at word : ℕ) → (k : IsCons a.objects (cell_value a t c) index) → i < 2 →
+pub put_is : (a : NamedHeap) (t : ℕ) (c : Cell) (i : ℕ) (b : Cell) (index at word : ℕ) → (k : RefersToCons a.objects (cell_value a t c) index) → i < 2 →
     at ≡ index + i → word ≡ word_of a.objects (cell_value a t b) →
-    IsOutcome a t (commands.Put c i b) answers.Done (changes.InSpace at word)
+    IsPlan a t (commands.Put c i b) answers.Done (changes.InSpace at word)
 unfolding answer_of effect_of
 put_is a t c i b index at word k low at_is word_is = record {
   answers = ap (λ (o : Option (List Value)). Some (refusing o i (λ _. answers.Done))) (fields_are a.objects (cell_value a t c) index k)

@@ -1,7 +1,7 @@
 //! What a command that allocates nothing does to the words.
 
 ghost use Rattle.std.specs.Prelude.{◌≡◌, ◌+◌, ◌*◌, ◌<◌, ◌≤◌, length};
-ghost use Rattle.lisp_heap.specs.Outcome.{cells_after, words_after, CanChange};
+ghost use Rattle.lisp_heap.specs.Plan.{cells_after, words_after, CanChange};
 
 use crate::cells::CellWords;
 use heap_terms::{Answer, Cell};
@@ -20,7 +20,7 @@ pub enum Change {
 
 /// The answer of a command, and the word that it changes.
 #[derive(Drop)]
-pub struct Outcome {
+pub struct Plan {
     /// What the command is answered.
     pub answer: Answer,
     /// The word that becomes another.

@@ -1,5 +1,5 @@
 -- What a command that allocates nothing does to the words.
-use Rattle.std.specs.Prelude.{◌≡◌, ℕ, ◌+◌, ◌*◌, ◌<◌, ◌≤◌, Some, List, length, slice_set}
+use Rattle.std.specs.Prelude.{◌≡◌, ℕ, ◌+◌, ◌<◌, Some, List, length, slice_set}
 use Rattle.heap_terms.specs.declared.answers.Answer.{Answer}
 use Rattle.heap_terms.specs.declared.cells.Cell.{Cell}
 use Rattle.heap_terms.specs.declared.cells.Value.{Value}
@@ -11,9 +11,9 @@ use Rattle.heap_terms.specs.Objects.{Object, ConsOf}
 use Rattle.heap_terms.specs.Simple.{answer_of, effect_of, with_field_at}
 use Rattle.heap_terms.specs.Valid.{IsCell}
 use Rattle.heap_terms.specs.Words.{word_of}
-use Rattle.lisp_heap.specs.CellsView.{CellsView, with_cell_word}
-use Rattle.lisp_heap.specs.declared.outcome.Change.{Change}
-use Rattle.lisp_heap.specs.declared.outcome.Change.TheVariants as changes
+use Rattle.lisp_heap.specs.CellsView.{CellsView, HasCells, with_cell_word}
+use Rattle.lisp_heap.specs.declared.plan.Change.{Change}
+use Rattle.lisp_heap.specs.declared.plan.Change.TheVariants as changes
 
 -- the cells after a change
 abbrev pub cells_after : CellsView → ℕ → Change → CellsView
@@ -30,8 +30,7 @@ words_after words (changes.InSpace index word) = slice_set words index word
 -- a change that the cells of thread t and the words have room for
 abbrev pub CanChange : CellsView → List ℕ → ℕ → Change → Type 0
 CanChange v words t changes.Nothing = Unit {0}
-CanChange v words t (changes.InCell cell word) =
-    IsCell cell × (16 * t + 16 ≤ length v.stack) × (16 * t + 16 ≤ length v.exact) × (length v.shared ≡ 16)
+CanChange v words t (changes.InCell cell word) = IsCell cell × HasCells v t
 CanChange v words t (changes.InSpace index word) = index < length words
 
 -- a value goes into a cell
@@ -63,6 +62,6 @@ Makes a t new (changes.InCell cell word) = PutsInCell a new t cell word
 Makes a t new (changes.InSpace index word) = PutsInCons a new index word
 
 -- the answer of thread t's command, and what changes with it
-pub record IsOutcome (a : NamedHeap) (t : ℕ) (c : Command) (answer : Answer) (change : Change) : Type 0 where
+pub record IsPlan (a : NamedHeap) (t : ℕ) (c : Command) (answer : Answer) (change : Change) : Type 0 where
   pub answers : answer_of a t c ≡ Some answer
   pub makes : Makes a t (effect_of a t c) change

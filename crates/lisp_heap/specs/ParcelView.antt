@@ -11,7 +11,7 @@ use Rattle.lisp_heap.specs.declared.parcels.RegionPlace.{RegionPlace}
 
 -- a region: the type of its pages, its first page, its pages, the index at which its next object begins, and what
 -- is built there and not committed
-pub record RegionView : Type 0 where
+pub record LeaseView : Type 0 where
   pub ty : PageType
   pub first : ℕ
   pub pages : ℕ
@@ -21,31 +21,31 @@ pub record RegionView : Type 0 where
 -- a parcel: its owner, the open small region of each type, and the open run for a large object
 pub record ParcelView : Type 0 where
   pub owner : ℕ
-  pub cons : Option RegionView
-  pub boxed : Option RegionView
-  pub unboxed : Option RegionView
-  pub run : Option RegionView
+  pub cons : Option LeaseView
+  pub boxed : Option LeaseView
+  pub unboxed : Option LeaseView
+  pub run : Option LeaseView
 
 -- a parcel without regions
 abbrev pub empty_parcel : ℕ → ParcelView
 empty_parcel owner = record { owner = owner; cons = None; boxed = None; unboxed = None; run = None }
 
 -- the small region of a type
-abbrev pub small_region : ParcelView → PageType → Option RegionView
+abbrev pub small_region : ParcelView → PageType → Option LeaseView
 small_region q types.Cons = q.cons
 small_region q types.Boxed = q.boxed
 small_region q types.Unboxed = q.unboxed
 
 -- the region into which an object of a kind with n words of payload goes
-abbrev pub region_for : ParcelView → Kind → ℕ → Option RegionView
+abbrev pub region_for : ParcelView → Kind → ℕ → Option LeaseView
 region_for q kind n = if is_small (size_of kind n) then small_region q (page_type_of kind) else q.run
 
 -- how many words of a region are left
-abbrev pub room_of : RegionView → ℕ
+abbrev pub room_of : LeaseView → ℕ
 room_of r = page_words * (r.first + r.pages) - r.next
 
 -- a region has room for an object of a kind; a run for a large object was opened for its type of pages
-abbrev pub Fits : Kind → ℕ → RegionView → Type 0
+abbrev pub Fits : Kind → ℕ → LeaseView → Type 0
 Fits kind n r = (size_of kind n ≤ room_of r) × (is_small (size_of kind n) ≡ false → r.ty ≡ page_type_of kind)
 
 -- an object can be built: the region of its class is there and has room
@@ -67,11 +67,11 @@ abbrev pub HasBuilt : ParcelView → Kind → ℕ → ℕ → Type 0
 HasBuilt q kind n seed = IsSomeAnd (region_for q kind n) (λ r. r.built ≡ Some (record { kind = kind; n = n; seed = seed }))
 
 -- a region without what is built there
-abbrev pub place_of : RegionView → RegionPlace
+abbrev pub place_of : LeaseView → RegionPlace
 place_of r = record { first = r.first; pages = r.pages; next = r.next }
 
 -- the number of regions in a parcel
-abbrev pub one_if : Option RegionView → ℕ
+abbrev pub one_if : Option LeaseView → ℕ
 one_if None = 0
 one_if (Some r) = 1
 
@@ -83,7 +83,7 @@ abbrev pub with_cons : ParcelView → ℕ → ParcelView
 with_cons q first = record q { cons = Some (record { ty = types.Cons; first = first; pages = 1; next = page_words * first; built = None }) }
 
 -- a region after the cons that is built there was committed
-abbrev pub cons_accepted : RegionView → RegionView
+abbrev pub cons_accepted : LeaseView → LeaseView
 cons_accepted r = record r { next = r.next + 2; built = None }
 
 -- a parcel after the cons that is built there was committed
@@ -91,7 +91,7 @@ abbrev pub with_accepted : ParcelView → ParcelView
 with_accepted q = record q { cons = option_map cons_accepted q.cons }
 
 -- a region after an object was built there
-abbrev pub region_built : Making → RegionView → RegionView
+abbrev pub region_built : Making → LeaseView → LeaseView
 region_built m r = record r { built = Some m }
 
 -- a parcel after an object was built in its small region of a type

@@ -15,7 +15,7 @@ pub record IsWord (a : NamedHeap) (word : ℕ) : Type 0 where
   pub word_is : word ≡ word_of a.objects value
 
 -- a value refers to a cons that begins at an index
-pub record IsCons (objects : List (Option Object)) (v : Value) (index : ℕ) : Type 0 where
+pub record RefersToCons (objects : List (Option Object)) (v : Value) (index : ℕ) : Type 0 where
   pub name : ℕ
   pub object : Object
   pub first : Value
@@ -28,4 +28,4 @@ pub record IsCons (objects : List (Option Object)) (v : Value) (index : ℕ) : T
 -- where the cons is to which a value refers, or that it refers to no object with fields
 abbrev pub IsConsAt : List (Option Object) → Value → Option ℕ → Type 0
 IsConsAt objects v None = fields_at objects v ≡ None
-IsConsAt objects v (Some index) = IsCons objects v index
+IsConsAt objects v (Some index) = RefersToCons objects v index

@@ -3,8 +3,8 @@ use Rattle.std.proofs.Common.{◌≡◌, ◌≢◌, ℕ, ◌+◌, ◌<◌, ◌++
 use Rattle.std.proofs.lemmas.List.{length_push}
 use Rattle.heap_laws.proofs.AtPlaces.{push_cases}
 use Rattle.lisp_heap.specs.Agreement.{AreFresh}
-use Rattle.lisp_heap.specs.Parcels.{ParcelView, empty_parcel}
-use Rattle.lisp_heap.proofs.making.fresh_parcels.Goals as goal
+use Rattle.lisp_heap.specs.ParcelView.{ParcelView, empty_parcel}
+use Rattle.lisp_heap.proofs.new_world.fresh_parcels.Goals as goal
 
 fresh_none : AreFresh [] 0
 fresh_none = record { count = refl; each = λ t d lt. absurd (omega arith) }

@@ -1,70 +1,21 @@
-//! A World before its first event, and whether a parcel agrees with a World.
+//! Whether a parcel agrees with a World.
 
-ghost use Rattle.std.specs.Prelude.{◌≡◌, ◌↔◌, ◌≤◌, ◌<◌, ◌*◌, [], length, option_map, IsTrue, IfOk};
+ghost use Rattle.std.specs.Prelude.{◌≡◌, ◌↔◌, ◌≤◌, ◌<◌, length, option_map, IsTrue};
 ghost use Rattle.std.specs.Option.{ForSome};
 ghost use Rattle.heap_terms.specs.declared.kinds.PageType.{PageType};
 ghost use Rattle.heap_terms.specs.Heap.{entry_at, fill_of, thread_at};
-ghost use Rattle.heap_terms.specs.Valid.{IsValid};
-ghost use Rattle.lisp_heap.specs.Agreement.{Agrees, AreFresh, run_out, run_pages_of, small_out};
-ghost use Rattle.lisp_heap.specs.Parcels.{place_of, small_region};
-ghost use Rattle.lisp_heap.specs.Parts.{fresh_parts};
+ghost use Rattle.heap_terms.specs.Layout.{page_words};
+ghost use Rattle.lisp_heap.specs.Agreement.{Agrees, run_out, run_pages_of, small_out};
+ghost use Rattle.lisp_heap.specs.ParcelView.{place_of, small_region};
 ghost use Rattle.lisp_heap.specs.State.{state_of, state_page};
 ghost use Rattle.lisp_heap.specs.View.{heap_of};
 
-use crate::cells::CellWords;
 use crate::parcels::{Parcel, RegionPlace};
-use crate::states::{ThreadState, fresh_states};
+use crate::states::ThreadState;
 use crate::world::World;
-use heap_terms::{Entry, Memory, Owned, PAGE_WORDS, PageType, Program};
-use page_table::PageTable;
-use std::alloc::Global;
-use word_space::{Prefilled, Space};
-
-/// How many double words a page has, each of which has a label.
-const PAGE_LABELS: usize = 256;
-
-/// The parcels of so many threads, each empty.
-fn fresh_parcels(alloc: Global, threads: u32) -> Result<Vec<Parcel>, Memory>
-    ensures { IfOk result (λ parcels. AreFresh parcels.items threads) }
-{
-    let mut parcels = Vec::with_capacity(alloc, threads as usize)?;
-    for t in 0..threads {
-        parcels.push_reserved(Parcel::empty(t));
-    }
-    Ok(parcels)
-}
+use heap_terms::{Entry, Owned, PAGE_WORDS, PageType};
 
 impl World {
-    /// The World of a valid program before its first event, and one empty parcel for each thread,
-    /// by owner.
-    pub fn new(alloc: Global, program: Program) -> Result<(World, Vec<Parcel>), Memory>
-        requires { IsValid program }
-        ensures program { IfOk result (λ made. made.0.program ≡ program) }
-        ensures history { IfOk result (λ made. made.0.history ≡ []) }
-        ensures parts { IfOk result (λ made. made.0.parts ≡ fresh_parts program) }
-        ensures parcels { IfOk result (λ made. AreFresh made.1.items (length program.threads)) }
-    {
-        let threads = program.threads.len();
-        let space = Space::new(alloc, program.pages)?;
-        let pages = PageTable::new(alloc, program.pages)?;
-        let labels = Prefilled::new(alloc, PAGE_LABELS * program.pages as usize, 0)?;
-        let cells = CellWords::new(alloc, threads)?;
-        let states = fresh_states(alloc, threads)?;
-        let parcels = fresh_parcels(alloc, threads as u32)?;
-        let world = World {
-            alloc,
-            program,
-            space,
-            pages,
-            labels,
-            cells,
-            states,
-            commits: 0,
-            history: Vec::new(alloc),
-        };
-        Ok((world, parcels))
-    }
-
     /// Whether the parcel has just the regions that are out for its owner. It takes no memory.
     pub fn agrees(&self, parcel: &Parcel) -> bool
         ensures { IsTrue result ↔ Agrees (heap_of self.now) parcel.now }
@@ -126,7 +77,7 @@ impl World {
     fn fill(&self, page: u32) -> u32
         requires { page < length (heap_of self.now).pages }
         ensures value { result ≡ fill_of (entry_at (heap_of self.now).pages page) }
-        ensures most { result ≤ 512 }
+        ensures most { result ≤ page_words }
         ensures page { page < 1024 }
     {
         match self.pages.entry(page) {
