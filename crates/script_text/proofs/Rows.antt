@@ -7,11 +7,11 @@ use Rattle.heap_terms.specs.declared.commands.Command.{Command}
 use Rattle.heap_terms.specs.declared.commands.Command.TheVariants as commands
 use Rattle.heap_terms.specs.declared.faults.Why.{Why}
 use Rattle.heap_terms.specs.declared.faults.Why.TheVariants.{Fields}
-use Rattle.heap_terms.specs.Fields.{◌>>=◌, signed_of, ranged, is_fixnum}
+use Rattle.heap_terms.specs.Fields.{◌>>=◌, is_fixnum}
 use Rattle.heap_terms.specs.Grammar.{FieldForm, LispCell, Signed, FieldValue, CellOf, NumberOf, SignedOf, Statement, Does, Row, Small, value_of, values_of, rows, command, cell, number, signed, said_by, statement_of}
 use Rattle.script_text.specs.declared.words.Name.{Name}
 use Rattle.script_text.specs.declared.words.Name.TheVariants as names
-use Rattle.script_text.specs.Commands.{in_first, but_first, a_cell, an_index, front_command, field_count, does}
+use Rattle.script_text.specs.Commands.{in_first, but_first, a_cell, an_index, a_fixnum, front_command, field_count, does}
 use Rattle.script_text.specs.Words.{text_of_name}
 
 -- ---- steps that may fail
@@ -49,7 +49,7 @@ as_cell field = refl
 as_index : ReadAs Small an_index NumberOf
 as_index field = refl
 
-as_fixnum : ReadAs (Signed is_fixnum) (λ f. ranged is_fixnum (signed_of f)) SignedOf
+as_fixnum : ReadAs (Signed is_fixnum) a_fixnum SignedOf
 as_fixnum field = refl
 
 -- the row of a command
@@ -105,7 +105,7 @@ three fa ra wa ha fb rb wb hb fc rc wc hc k says same fs =
 
 front_is : (name : Name) (fs : List (List ℕ)) → does (front_command name fs) ≡ front_said (row_of name) fs
 unfolding row_of
-front_is names.Fix fs = two LispCell a_cell CellOf as_cell (Signed is_fixnum) (λ f. ranged is_fixnum (signed_of f)) SignedOf as_fixnum commands.Fix (λ v. Does (commands.Fix (cell v 0) (signed v 1))) (λ x y. refl) fs
+front_is names.Fix fs = two LispCell a_cell CellOf as_cell (Signed is_fixnum) a_fixnum SignedOf as_fixnum commands.Fix (λ v. Does (commands.Fix (cell v 0) (signed v 1))) (λ x y. refl) fs
 front_is names.Cons fs = three LispCell a_cell CellOf as_cell LispCell a_cell CellOf as_cell LispCell a_cell CellOf as_cell commands.NewCons (λ v. Does (commands.NewCons (cell v 0) (cell v 1) (cell v 2))) (λ x y z. refl) fs
 front_is names.Get fs = three LispCell a_cell CellOf as_cell LispCell a_cell CellOf as_cell Small an_index NumberOf as_index commands.Get (λ v. Does (commands.Get (cell v 0) (cell v 1) (number v 2))) (λ x y z. refl) fs
 front_is names.Put fs = three LispCell a_cell CellOf as_cell Small an_index NumberOf as_index LispCell a_cell CellOf as_cell commands.Put (λ v. Does (commands.Put (cell v 0) (number v 1) (cell v 2))) (λ x y z. refl) fs
