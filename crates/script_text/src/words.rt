@@ -1,9 +1,11 @@
-//! The words with which lines begin, and where such a line may stand.
+//! The words with which lines begin, and where such a line may stand. The name of a command is also
+//! read in its usual spelling, at the very front of the line and with one space after it.
 
-ghost use Rattle.std.specs.Prelude.{◌≡◌, false, MatchOption};
+ghost use Rattle.std.specs.Prelude.{◌≡◌, false, MatchOption, IfSome};
 ghost use Rattle.heap_terms.specs.Reading.{may_follow};
 ghost use Rattle.heap_terms.specs.Valid.{is_built};
-ghost use Rattle.script_text.specs.Words.{text_of, place_of};
+ghost use Rattle.script_text.specs.Left.{IsSolidWord, Taken};
+ghost use Rattle.script_text.specs.Words.{text_of, text_of_name, place_of};
 
 /// The name of a command.
 #[derive(Clone, Copy)]
@@ -43,6 +45,40 @@ pub(crate) fn meaning_of(word: &[u8]) -> Option<Keyword>
         b"lispheap" => Some(Keyword::Lispheap),
         _ => None,
     }
+}
+
+/// A word with a space after it, and the bytes from that space on.
+#[inline(always)]
+fn plain_word<'a, const N: usize>(rest: &'a [u8], word: &[u8; N]) -> Option<&'a [u8]>
+    requires { IsSolidWord word.now }
+    ensures { IfSome result (λ after. Taken rest.now word.now after.now) }
+{
+    let after = rest.strip_prefix(word.as_slice())?;
+    if after.is_empty() || after[0] != b' ' {
+        return None;
+    }
+    Some(after)
+}
+
+/// The name of a command with a space after it, and the bytes from that space on.
+#[inline(always)]
+pub(crate) fn plain_name(rest: &[u8]) -> Option<(Name, &[u8])>
+    ensures { IfSome result (λ f. Taken rest.now (text_of_name f.0) f.1.now) }
+{
+    if let Some(after) = plain_word(rest, b"cons") {
+        return Some((Name::Cons, after));
+    }
+    if let Some(after) = plain_word(rest, b"get") {
+        return Some((Name::Get, after));
+    }
+    if let Some(after) = plain_word(rest, b"put") {
+        return Some((Name::Put, after));
+    }
+    if let Some(after) = plain_word(rest, b"show") {
+        return Some((Name::Show, after));
+    }
+    let after = plain_word(rest, b"fix")?;
+    Some((Name::Fix, after))
 }
 
 /// After which line a line stands.

@@ -1,6 +1,6 @@
 use Rattle.std.proofs.Common.{◌≡◌, ◌≤◌, length, get_or, sym, arith}
 use Rattle.script_text.proofs.Spelled.{digit_taken}
-use Rattle.script_text.proofs.plain.plain_digit.Goals as goal
+use Rattle.script_text.proofs.turns.plain_digit.Goals as goal
 
 pub returns : goal.returns
 returns c =

@@ -1,6 +1,6 @@
 use Rattle.std.proofs.Common.{◌≡◌, ◌≤◌, length, get_or, sym, arith}
 use Rattle.script_text.proofs.Spelled.{plain_one, plain_two}
-use Rattle.script_text.proofs.plain.plain_number.Goals as goal
+use Rattle.script_text.proofs.cells.plain_number_of_cell.Goals as goal
 
 pub returns-then-ends_plainly : goal.returns-then-ends_plainly
 returns-then-ends_plainly c =

@@ -1,6 +1,6 @@
 use Rattle.std.proofs.Common.{sym, ◌∙◌}
 use Rattle.script_text.proofs.Stars.{no_star, cut_at, position_none}
-use Rattle.script_text.proofs.values.turns_in.Goals as goal
+use Rattle.script_text.proofs.turns.turns_in.Goals as goal
 
 pub returns-in-None : goal.returns-in-None
 returns-in-None c = c.one_turn.ensures ∙ sym (no_star c.args.threads c.args.field.now (position_none c.args.field.now c.in-None.ensures.value))

@@ -1,6 +1,6 @@
 use Rattle.std.proofs.Common.{sym, arith}
 use Rattle.script_text.proofs.Lines.{blank_more}
-use Rattle.script_text.proofs.cursor.without_blanks.Goals as goal
+use Rattle.script_text.proofs.fields.without_blanks.Goals as goal
 
 pub loop-start-preserved : goal.loop-start-preserved
 loop-start-preserved c = record {

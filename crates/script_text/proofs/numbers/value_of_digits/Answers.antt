@@ -1,6 +1,6 @@
 use Rattle.std.proofs.Common.{◌<◌, ◌≤◌, ◌-◌, ◌^◌, length, get_or, arith}
 use Rattle.script_text.proofs.Digits.{adds_digit, all_digits_more}
-use Rattle.script_text.proofs.values.value_of_digits.Goals as goal
+use Rattle.script_text.proofs.numbers.value_of_digits.Goals as goal
 
 pub loop-byte-preserved : goal.loop-byte-preserved
 loop-byte-preserved c =

@@ -1,6 +1,6 @@
 use Rattle.std.proofs.Common.{length, ◌-◌, ◌≤◌, drop}
 use Rattle.script_text.specs.Left.{SameLeft}
-use Rattle.script_text.proofs.cursor.without_blanks.Given as goal
+use Rattle.script_text.proofs.fields.without_blanks.Given as goal
 
 abbrev pub invariant-loop-start : goal.invariant-loop-start
 invariant-loop-start l = record {

@@ -1,6 +1,6 @@
 use Rattle.std.proofs.Common.{length, ◌-◌, ◌+◌, ◌≡◌, ◌≤◌, drop}
 use Rattle.script_text.specs.Left.{field_len}
-use Rattle.script_text.proofs.cursor.len_of_field.Given as goal
+use Rattle.script_text.proofs.fields.len_of_field.Given as goal
 
 abbrev pub invariant-loop-len : goal.invariant-loop-len
 invariant-loop-len l = record {

@@ -1,6 +1,6 @@
 use Rattle.std.proofs.Common.{◌≡◌, ◌≤◌, length, get_or, arith}
 use Rattle.script_text.proofs.Spelled.{stack_at, exact_at, shared_at}
-use Rattle.script_text.proofs.plain.plain_cell.Goals as goal
+use Rattle.script_text.proofs.cells.plain_cell.Goals as goal
 
 pub returns-in-115 : goal.returns-in-115
 returns-in-115 c =

@@ -1,6 +1,6 @@
 use Rattle.std.proofs.Common.{sym, arith}
 use Rattle.script_text.proofs.Lines.{field_more, field_all, field_past}
-use Rattle.script_text.proofs.cursor.len_of_field.Goals as goal
+use Rattle.script_text.proofs.fields.len_of_field.Goals as goal
 
 pub loop-len-preserved : goal.loop-len-preserved
 loop-len-preserved c = record {
