@@ -1,7 +1,7 @@
 //! The words with which lines begin, and where such a line may stand.
 
 ghost use Rattle.std.specs.Prelude.{◌≡◌, false, MatchOption};
-ghost use Rattle.heap_terms.specs.Reading.{may_follow};
+ghost use Rattle.heap_terms.specs.ScriptReading.{may_follow};
 ghost use Rattle.heap_terms.specs.Valid.{is_built};
 ghost use Rattle.script_text.specs.Words.{text_of, place_of};
 
