@@ -5,7 +5,7 @@
 //! sections; that a stop waits for the end of a section, the bits, the steps and the phases are this project's own.
 #![tactic(auto)]
 
-ghost use Rattle.std.specs.Prelude.{◌≡◌, ◌≤◌, ◌<◌, ◌^◌, ◌∷◌, length, replicate, suc, IfOk, MatchOption};
+ghost use Rattle.std.specs.Prelude.{◌≡◌, ◌↔◌, IsTrue, ◌≤◌, ◌<◌, ◌^◌, ◌∷◌, length, replicate, suc, IfOk, MatchOption};
 ghost use Rattle.heap_terms.specs.WordMachine.{place_of, becomes, answer, MayStep, words_after, answer_at};
 
 use heap_terms::{Memory, Seq};
@@ -183,6 +183,13 @@ pub fn word_step(state: &mut StopState, thread: u32, step: WordStep) -> StepAnsw
             answered(step, found)
         }
     }
+}
+
+/// Two states are equal exactly where they are the same.
+pub fn stop_states_are_equal_exactly(a: &StopState, b: &StopState) -> bool
+    ensures { IsTrue result ↔ (a.now ≡ b.now) }
+{
+    a == b
 }
 
 #[cfg(test)]
