@@ -14,3 +14,4 @@ mod Termination
 mod Progress
 mod Order
 mod Ranges
+mod Equal

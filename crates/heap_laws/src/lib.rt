@@ -4,6 +4,7 @@
 //! `specs/` alone.
 #![tactic(auto)]
 
+pub mod equality;
 pub mod heaps;
 pub mod histories;
 pub mod words;

@@ -18,7 +18,7 @@ use Rattle.heap_terms.specs.Objects.{Object, Contents, ConsOf, kind_of, words_of
 use Rattle.heap_terms.specs.Simple.{fields_at}
 use Rattle.heap_terms.specs.Valid.{IsCell, IsFixnum}
 use Rattle.heap_terms.specs.WellFormed.{IsLiving}
-use Rattle.heap_terms.specs.Words.{word_of, word_of_object}
+use Rattle.heap_terms.specs.Spelling.{word_of, word_of_object}
 use Rattle.heap_laws.proofs.AtPlaces.{IfSome-at, IsSome-value}
 use Rattle.heap_laws.proofs.SoundHeaps.{cell_living}
 use Rattle.lisp_words.specs.Tagged.{IsTagged, tag_bits}

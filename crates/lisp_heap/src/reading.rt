@@ -10,7 +10,7 @@ ghost use Rattle.heap_terms.specs.Cells.{cell_value};
 ghost use Rattle.heap_terms.specs.Histories.{command_at};
 ghost use Rattle.heap_terms.specs.Valid.{IsCell, IsFixnum};
 ghost use Rattle.heap_terms.specs.WellFormed.{IsLiving};
-ghost use Rattle.heap_terms.specs.Words.{word_of};
+ghost use Rattle.heap_terms.specs.Spelling.{word_of};
 ghost use Rattle.lisp_heap.specs.Plan.{IsPlan};
 ghost use Rattle.lisp_heap.specs.LivingWords.{IsWord, IsConsAt};
 ghost use Rattle.lisp_heap.specs.View.{heap_of, next_of};

@@ -9,7 +9,7 @@ use Rattle.heap_terms.specs.declared.pages.Next.TheVariants as nexts
 use Rattle.heap_terms.specs.Histories.{command_at, after}
 use Rattle.heap_terms.specs.Regions.{place_for, with_fill}
 use Rattle.heap_terms.specs.Heap.{entry_at, thread_at}
-use Rattle.heap_terms.specs.Words.{word_of}
+use Rattle.heap_terms.specs.Spelling.{word_of}
 use Rattle.heap_terms.specs.Cells.{cell_value}
 use Rattle.heap_laws.proofs.ValidScripts.{script_built}
 use Rattle.lisp_heap.specs.ParcelView.{with_accepted}

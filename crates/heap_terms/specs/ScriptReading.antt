@@ -9,7 +9,7 @@ use Rattle.heap_terms.specs.declared.faults.LimitKind.{LimitKind}
 use Rattle.heap_terms.specs.declared.faults.LimitKind.TheVariants as limits
 use Rattle.heap_terms.specs.declared.programs.Program.{Program}
 use Rattle.heap_terms.specs.declared.limits.TheConstants.{MOST_PAGES, MOST_THREADS, MOST_COMMANDS, MOST_GCS, MOST_TURNS}
-use Rattle.heap_terms.specs.Fields.{fields_of}
+use Rattle.heap_terms.specs.Fields.{fields_in}
 use Rattle.heap_terms.specs.Grammar.{Statement, Version, HeapOf, AutoOf, NewThread, Does, Turns, EndOfScript, statement_of}
 use Rattle.heap_terms.specs.Valid.{is_built, is_gc}
 
@@ -134,7 +134,7 @@ finished s number = finished_at s.place s.program number
 -- the lines so far, and lines from this number on
 unfoldable pub read_lines : SoFar → ℕ → List (List ℕ) → Result Program Fault
 read_lines s number [] = finished s number
-read_lines s number (line ∷ more) = elim (judged s (fields_of line)) [ Ok next ↦ read_lines next (number + 1) more | Err refused ↦ Err (fault_at number refused) ]
+read_lines s number (line ∷ more) = elim (judged s (fields_in line)) [ Ok next ↦ read_lines next (number + 1) more | Err refused ↦ Err (fault_at number refused) ]
 
 -- what the bytes of a script say
 unfoldable pub read_script : List ℕ → Result Program Fault
