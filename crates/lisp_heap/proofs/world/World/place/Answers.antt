@@ -202,7 +202,7 @@ made c = record {
   pages = c.set_fill.new.self;
   labels = c.set.new.self;
   cells = c.write-3.new.self;
-  states = c.advance.new.states;
+  states = c.advance.new.self;
   commits = c.self.inside.commits + 1;
   history = c.push.new.self;
 }
@@ -238,7 +238,7 @@ sound_made c =
       pages = c.set_fill.new.self;
       labels = c.set.new.self;
       cells = c.write-3.new.self;
-      states = c.advance.new.states;
+      states = c.advance.new.self;
       commits = s.commits + 1;
     })
     (w1 ∙ ap (λ (ws : List ℕ). slice_set ws (c.args.index + 1) c.cell-second.result) w2

@@ -46,7 +46,7 @@ made c = record {
   pages = c.self.inside.pages;
   labels = c.self.inside.labels;
   cells = c.self.inside.cells;
-  states = c.advance.new.states;
+  states = c.advance.new.self;
   commits = c.self.inside.commits;
   history = c.push.new.self;
 }
@@ -65,7 +65,7 @@ sound_made c =
       pages = s.pages;
       labels = s.labels;
       cells = s.cells;
-      states = c.advance.new.states;
+      states = c.advance.new.self;
       commits = s.commits;
     }) =
     rw c.advance.ensures (refused_holds s c.self.invariant c.args.t c.unwrap-command.result lt at opens) in
