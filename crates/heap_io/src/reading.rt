@@ -38,7 +38,11 @@ impl From<AllocError> for ReadFault {
 }
 
 // How many bytes one call asks for.
-const PIECE: usize = 65_536;
+const PIECE: usize = 16_384;
+
+// How many bytes the input may have before the list of its bytes grows for the first time. What of it
+// is not used is not touched.
+const FIRST_ROOM: usize = 262_144;
 
 /// Reads the source to the end of its input, at most `limit` bytes. The work is linear in the bytes.
 /// After an error some bytes were taken, and are lost.
@@ -86,7 +90,7 @@ fn read_pieces<S: Source>(
         → GaveAtMost (S.contents source.old) (S.contents source.new) limit) }
     ensures counted { S.faults source.old ≤ S.faults source.new }
 {
-    let mut bytes = Vec::new(alloc);
+    let mut bytes = Vec::with_capacity(alloc, FIRST_ROOM)?;
     while take_piece(source, piece, &mut bytes, limit)? > 0 {}
     Ok(bytes)
 }
