@@ -73,9 +73,7 @@ impl MemorySink {
 }
 
 impl Sink for MemorySink {
-    ghost contents = { λ s. Some s.bytes };
-
-    ghost faults = { λ s. s.faults };
+    ghost state = { λ s. record { contents = Some s.bytes; faults = s.faults } };
 
     fn put(&mut self, piece: &[u8]) -> Result<usize, Failed>
         requires { 0 < length piece.now }

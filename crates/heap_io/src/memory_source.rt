@@ -55,9 +55,7 @@ impl MemorySource {
 }
 
 impl Source for MemorySource {
-    ghost contents = { λ s. Some s.left };
-
-    ghost faults = { λ s. s.faults };
+    ghost state = { λ s. record { contents = Some s.left; faults = s.faults } };
 
     fn take(&mut self, buf: &mut [u8]) -> Result<usize, Failed>
         requires { 0 < length buf.old }

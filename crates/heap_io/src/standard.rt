@@ -25,9 +25,7 @@ impl<R: Read> StdSource<R> {
 }
 
 impl<R: Read> Source for StdSource<R> {
-    ghost contents = { λ _. None };
-
-    ghost faults = { λ s. s.faults };
+    ghost state = { λ s. record { contents = None; faults = s.faults } };
 
     fn take(&mut self, buf: &mut [u8]) -> Result<usize, Failed>
         requires { 0 < length buf.old }
@@ -72,9 +70,7 @@ impl<W: Write> StdSink<W> {
 }
 
 impl<W: Write> Sink for StdSink<W> {
-    ghost contents = { λ _. None };
-
-    ghost faults = { λ s. s.faults };
+    ghost state = { λ s. record { contents = None; faults = s.faults } };
 
     fn put(&mut self, piece: &[u8]) -> Result<usize, Failed>
         requires { 0 < length piece.now }

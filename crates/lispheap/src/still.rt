@@ -33,9 +33,9 @@ pub fn lispheap_still<S: Source, K: Sink, E: Sink>(
     err: &mut E,
 ) -> u8
     ensures answers { Answers (map string_bytes words.now)
-        (change (S.contents source.old) (S.contents source.new) (S.faults source.old) (S.faults source.new))
-        (change (K.contents out.old) (K.contents out.new) (K.faults out.old) (K.faults out.new))
-        (change (E.contents err.old) (E.contents err.new) (E.faults err.old) (E.faults err.new))
+        (change (S.state source.old) (S.state source.new))
+        (change (K.state out.old) (K.state out.new))
+        (change (E.state err.old) (E.state err.new))
         result }
 
     // The words alone decide this status.
@@ -43,8 +43,8 @@ pub fn lispheap_still<S: Source, K: Sink, E: Sink>(
 
     // Without a fault of the source or of `out` the bytes alone decide the status, unless memory runs out.
     ensures exact { IsExact (map string_bytes words.now)
-        (change (S.contents source.old) (S.contents source.new) (S.faults source.old) (S.faults source.new))
-        (change (K.contents out.old) (K.contents out.new) (K.faults out.old) (K.faults out.new))
+        (change (S.state source.old) (S.state source.new))
+        (change (K.state out.old) (K.state out.new))
         result }
 {
     answer(alloc, words, source, out, err)
@@ -59,9 +59,9 @@ fn answer<S: Source, K: Sink, E: Sink>(
     err: &mut E,
 ) -> u8
     ensures { Answers (map string_bytes words.now)
-        (change (S.contents source.old) (S.contents source.new) (S.faults source.old) (S.faults source.new))
-        (change (K.contents out.old) (K.contents out.new) (K.faults out.old) (K.faults out.new))
-        (change (E.contents err.old) (E.contents err.new) (E.faults err.old) (E.faults err.new))
+        (change (S.state source.old) (S.state source.new))
+        (change (K.state out.old) (K.state out.new))
+        (change (E.state err.old) (E.state err.new))
         result }
 {
     match perform(alloc, words, source, out) {
@@ -74,7 +74,7 @@ fn answer<S: Source, K: Sink, E: Sink>(
 fn report<E: Sink>(err: &mut E, fault: Fault) -> u8
     ensures status { result ≡ status_of (Some fault) }
     ensures reports { Reports (Some fault)
-        (change (E.contents err.old) (E.contents err.new) (E.faults err.old) (E.faults err.new)) }
+        (change (E.state err.old) (E.state err.new)) }
 {
     let _ = say(err, fault);
     fault.status()
@@ -88,11 +88,11 @@ fn perform<S: Source, K: Sink>(
     out: &mut K,
 ) -> Result<(), Fault>
     ensures done { OnOk result (Ends None (map string_bytes words.now)
-        (change (S.contents source.old) (S.contents source.new) (S.faults source.old) (S.faults source.new))
-        (change (K.contents out.old) (K.contents out.new) (K.faults out.old) (K.faults out.new))) }
+        (change (S.state source.old) (S.state source.new))
+        (change (K.state out.old) (K.state out.new))) }
     ensures failed { IfErr result (λ fault. Ends (Some fault) (map string_bytes words.now)
-        (change (S.contents source.old) (S.contents source.new) (S.faults source.old) (S.faults source.new))
-        (change (K.contents out.old) (K.contents out.new) (K.faults out.old) (K.faults out.new))) }
+        (change (S.state source.old) (S.state source.new))
+        (change (K.state out.old) (K.state out.new))) }
 {
     if !is_replay(words) {
         return Err(Fault::Usage);
@@ -120,11 +120,11 @@ fn is_word(word: &String) -> bool
 // Reads a script, replays it, and writes its journal.
 fn replay<S: Source, K: Sink>(alloc: Global, source: &mut S, out: &mut K) -> Result<(), Fault>
     ensures done { OnOk result (Replays None
-        (change (S.contents source.old) (S.contents source.new) (S.faults source.old) (S.faults source.new))
-        (change (K.contents out.old) (K.contents out.new) (K.faults out.old) (K.faults out.new))) }
+        (change (S.state source.old) (S.state source.new))
+        (change (K.state out.old) (K.state out.new))) }
     ensures failed { IfErr result (λ fault. Replays (Some fault)
-        (change (S.contents source.old) (S.contents source.new) (S.faults source.old) (S.faults source.new))
-        (change (K.contents out.old) (K.contents out.new) (K.faults out.old) (K.faults out.new))) }
+        (change (S.state source.old) (S.state source.new))
+        (change (K.state out.old) (K.state out.new))) }
 {
     let bytes = read(alloc, source)?;
     let journal = journal_for(alloc, &bytes)?;
@@ -134,9 +134,9 @@ fn replay<S: Source, K: Sink>(alloc: Global, source: &mut S, out: &mut K) -> Res
 // Writes a journal.
 fn write<K: Sink>(out: &mut K, text: &[u8]) -> Result<(), Fault>
     ensures written { OnOk result (SaysAll text.now
-        (change (K.contents out.old) (K.contents out.new) (K.faults out.old) (K.faults out.new))) }
+        (change (K.state out.old) (K.state out.new))) }
     ensures stopped { IfErr result (λ fault. IsUnwritten fault text.now
-        (change (K.contents out.old) (K.contents out.new) (K.faults out.old) (K.faults out.new))) }
+        (change (K.state out.old) (K.state out.new))) }
 {
     match put_text(out, text) {
         Ok(()) => Ok(()),
@@ -147,9 +147,9 @@ fn write<K: Sink>(out: &mut K, text: &[u8]) -> Result<(), Fault>
 // Reads the source to its end.
 fn read<S: Source>(alloc: Global, source: &mut S) -> Result<Vec<u8>, Fault>
     ensures read { IfOk result (λ bytes. IsInput
-        (change (S.contents source.old) (S.contents source.new) (S.faults source.old) (S.faults source.new)) bytes.items) }
+        (change (S.state source.old) (S.state source.new)) bytes.items) }
     ensures failed { IfErr result (λ fault. IsUnread fault
-        (change (S.contents source.old) (S.contents source.new) (S.faults source.old) (S.faults source.new))) }
+        (change (S.state source.old) (S.state source.new))) }
 {
     match read_all(alloc, source, INPUT_LIMIT) {
         Ok(bytes) => Ok(bytes),

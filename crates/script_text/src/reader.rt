@@ -30,6 +30,10 @@ const MOST_COMMANDS: u32 = 20_000;
 /// How many of them may be `gc`.
 const MOST_GCS: u32 = 64;
 
+/// How many bytes a short line of a command has. It is a guess: where lines are shorter, a thread's
+/// list of commands grows.
+const SHORT_LINE: usize = 8;
+
 /// What the lines so far say.
 #[derive(Drop)]
 pub(crate) struct Reader {
@@ -97,14 +101,16 @@ impl Reader {
         Ok(())
     }
 
-    /// A thread, with no command yet.
-    fn thread(&mut self, alloc: Global) -> Result<(), LineFault>
+    /// A thread, with no command yet, and room for the commands that so many bytes can be.
+    fn thread(&mut self, alloc: Global, bytes: usize) -> Result<(), LineFault>
         ensures { IsJudged result self.new (within_limits self.old (Ok NewThread)) }
     {
         if self.threads.len() >= MOST_THREADS {
             return Err(LineFault::Over(LimitKind::Threads));
         }
-        self.threads.push(Commands::new(alloc))?;
+        let most = (MOST_COMMANDS - self.commands) as usize;
+        let commands = Vec::with_capacity(alloc, most.min(bytes / SHORT_LINE))?;
+        self.threads.push(Commands::from_vec(commands))?;
         self.place = Place::Thread;
         Ok(())
     }
@@ -174,7 +180,7 @@ impl Reader {
                 if !left.is_at_end() {
                     return Err(LineFault::Bad(Why::Fields));
                 }
-                self.thread(alloc)
+                self.thread(alloc, left.len())
             }
             Keyword::End => {
                 if !left.is_at_end() {
