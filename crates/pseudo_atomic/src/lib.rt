@@ -6,7 +6,7 @@
 //! steps and the phases are this project's own.
 #![tactic(auto)]
 
-ghost use Rattle.std.specs.Prelude.{◌≡◌, ◌↔◌, IsTrue, ◌≤◌, ◌<◌, ◌^◌, ◌∷◌, length, replicate, suc, IfOk, MatchOption};
+ghost use Rattle.std.specs.Prelude.{◌≡◌, ◌≤◌, ◌<◌, ◌^◌, ◌∷◌, length, replicate, suc, IfOk, MatchOption};
 ghost use Rattle.heap_terms.specs.WordMachine.{place_of, becomes, answer, MayStep, words_after, answer_at};
 
 pub mod laws;
