@@ -4,6 +4,13 @@ pub mod Heap
 pub mod Cells
 pub mod Words
 pub mod Valid
+pub mod Referents
+pub mod RawCells
+pub mod Pairs
+pub mod Generations
+pub mod PageViews
+pub mod Outcome
+pub mod Outcomes
 pub mod Simple
 pub mod Regions
 pub mod Histories
