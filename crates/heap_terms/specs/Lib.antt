@@ -12,6 +12,13 @@ pub mod PageViews
 pub mod Outcome
 pub mod Outcomes
 pub mod Simple
+pub mod Roots
+pub mod Live
+pub mod Survival
+pub mod Placement
+pub mod Passes
+pub mod Policy
+pub mod Collections
 pub mod Regions
 pub mod Histories
 pub mod Complete
