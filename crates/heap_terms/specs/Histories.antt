@@ -11,6 +11,7 @@ use Rattle.heap_terms.specs.declared.kinds.PageType.{PageType}
 use Rattle.heap_terms.specs.declared.pages.Next.{Next}
 use Rattle.heap_terms.specs.declared.pages.Next.TheVariants as nexts
 use Rattle.heap_terms.specs.declared.programs.Program.{Program}
+use Rattle.heap_terms.specs.Collections.{IsCollection, collected}
 use Rattle.heap_terms.specs.Heap.{NamedHeap, Thread, start, thread_at, with_thread, ended_thread}
 use Rattle.heap_terms.specs.Layout.{page_type_of, size_of}
 use Rattle.heap_terms.specs.Regions.{Wish, Nothing, Make, wish_of, has_room, pages_needed, IsLowestRun, HasNoRun, opened, committed, place_for}
@@ -80,11 +81,12 @@ IsAnswer a t c answer (nexts.Collect last) = ⊥
 IsAnswer a t c answer nexts.End = ⊥
 IsAnswer a t c answer nexts.Done = ⊥
 
--- An event that may come next. The command of a `Did` is the one at its thread's place. No collection is built yet.
+-- An event that may come next. The command of a `Did` is the one at its thread's place. A collection comes where its
+-- thread owes one and no thread inhibits; its passes are those that the rules of a collection allow.
 unfoldable pub IsNext : Program → NamedHeap → Event → Type 0
 IsNext p a (Did t c answer) = (command_at p a t ≡ Some c) × IsAnswer a t c answer (next p a t)
 IsNext p a (Opened t ty first k) = (next p a t ≡ nexts.Open) × IsOpening a (wish_at (command_at p a t)) ty first k
-IsNext p a (Collected t last passes) = ⊥
+IsNext p a (Collected t last passes) = (next p a t ≡ nexts.Collect last) × IsCollection a last passes
 IsNext p a (Ended t) = next p a t ≡ nexts.End
 
 -- the heap after thread t's command, by what t did
@@ -100,7 +102,7 @@ after_command p a t c nexts.Done = a
 unfoldable pub after : Program → NamedHeap → Event → NamedHeap
 after p a (Did t c answer) = after_command p a t c (next p a t)
 after p a (Opened t ty first k) = opened a t ty first k
-after p a (Collected t last passes) = a
+after p a (Collected t last passes) = collected a t last passes
 after p a (Ended t) = with_thread a t (ended_thread (thread_at a t))
 
 -- the thread that an event belongs to
