@@ -27,11 +27,6 @@ pub mod WellFormed
 pub mod Stands
 pub mod PageRuns
 pub mod Fresh
-pub mod Left
-pub mod Runs
-pub mod Order
-pub mod Plain
-pub mod Laws
 pub mod Fields
 pub mod Grammar
 pub mod Reading

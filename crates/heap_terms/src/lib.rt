@@ -9,7 +9,6 @@ pub mod commands;
 pub mod events;
 pub mod faults;
 pub mod kinds;
-pub mod laws;
 pub mod lists;
 pub mod pages;
 pub mod programs;

@@ -10,7 +10,7 @@ use Rattle.heap_terms.specs.Objects.{Object, ConsOf, words_of_object}
 use Rattle.heap_terms.specs.Stands.{WordsStand, AreAt}
 use Rattle.heap_terms.specs.WellFormed.{IsWellFormed, IsLiving, AreApart, IsPlaced}
 use Rattle.heap_terms.specs.Words.{word_of, spelling}
-use Rattle.heap_terms.proofs.Places.{IfSome-at, IfSome-from, IsSome-from, push_cases}
+use Rattle.heap_laws.proofs.AtPlaces.{IfSome-at, IfSome-from, IsSome-from, push_cases}
 use Rattle.lisp_heap.specs.Standing.{LabelsStand}
 use Rattle.lisp_heap.proofs.ObjectLemmas.{word_of-push, name_below}
 use Rattle.lisp_heap.proofs.PutLemmas.{apart_at, placed_at}

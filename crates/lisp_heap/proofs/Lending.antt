@@ -10,8 +10,8 @@ use Rattle.heap_terms.specs.Heap.{fill_of}
 use Rattle.heap_terms.specs.Histories.{command_at, next, wish_at, wished_size}
 use Rattle.heap_terms.specs.Layout.{page_words}
 use Rattle.heap_terms.specs.Regions.{IsRun, HasNoRun, Wish, pages_needed, place_for}
-use Rattle.heap_terms.proofs.Committing.{has_page, place_small}
-use Rattle.heap_terms.proofs.Places.{IsSome-value}
+use Rattle.heap_laws.proofs.AtPlaces.{IsSome-value}
+use Rattle.heap_laws.proofs.Allocating.{has_page, place_small}
 use Rattle.lisp_heap.specs.Agreement.{Agrees, IsBuiltFor, Lends}
 use Rattle.lisp_heap.specs.Parcels.{ParcelView, RegionView, HasBuilt}
 use Rattle.lisp_heap.specs.Sound.{IsSound, view_of}

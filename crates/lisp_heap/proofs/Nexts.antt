@@ -16,9 +16,9 @@ use Rattle.heap_terms.specs.Layout.{page_words}
 use Rattle.heap_terms.specs.Regions.{Wish, wish_of, has_room}
 use Rattle.heap_terms.specs.Valid.{IsValid}
 use Rattle.heap_terms.specs.WellFormed.{IsWellFormed, IsOpenPage}
-use Rattle.heap_terms.proofs.Committing.{room_page}
-use Rattle.heap_terms.proofs.Scripts.{script_wish}
-use Rattle.heap_terms.proofs.Threading.{open_page_used}
+use Rattle.heap_laws.proofs.SoundHeaps.{open_page_used}
+use Rattle.heap_laws.proofs.Allocating.{room_page}
+use Rattle.heap_laws.proofs.ValidScripts.{script_wish}
 use Rattle.lisp_heap.specs.declared.parcels.RegionPlace.{RegionPlace}
 use Rattle.lisp_heap.specs.Agreement.{Agrees, CanBuild, small_out}
 use Rattle.lisp_heap.specs.Parcels.{ParcelView, RegionView, place_of, Fits, room_of}

@@ -11,7 +11,7 @@ use Rattle.heap_terms.specs.Simple.{with_field_at, object_with_field, with_field
 use Rattle.heap_terms.specs.Stands.{WordsStand}
 use Rattle.heap_terms.specs.WellFormed.{IsWellFormed}
 use Rattle.heap_terms.specs.Words.{word_of}
-use Rattle.heap_terms.proofs.Places.{IfSome-at, IfSome-from, set_cases}
+use Rattle.heap_laws.proofs.AtPlaces.{IfSome-at, IfSome-from, set_cases}
 use Rattle.lisp_heap.specs.CellsView.{CellsView}
 use Rattle.lisp_heap.specs.Outcome.{Makes, cells_after, words_after}
 use Rattle.lisp_heap.specs.Standing.{Parts, Holds, CellsStand, LabelsStand}

@@ -25,11 +25,9 @@ use Rattle.heap_terms.specs.Stands.{WordsStand}
 use Rattle.heap_terms.specs.Valid.{IsCell}
 use Rattle.heap_terms.specs.WellFormed.{IsWellFormed, IsLiving, IsOpenRunPage, IsPlaced}
 use Rattle.heap_terms.specs.Words.{word_of, word_of_object}
-use Rattle.heap_terms.proofs.Committing.{HasPage, has_page, place_small, committed-small, new_object, heap_with}
-use Rattle.heap_terms.proofs.Counting.{commits_few}
-use Rattle.heap_terms.proofs.Scripts.{script_command}
-use Rattle.heap_terms.proofs.Standing.{after-well_formed}
-use Rattle.heap_terms.proofs.Threading.{open_run_used}
+use Rattle.heap_laws.proofs.SoundHeaps.{commits_few, after-well_formed, open_run_used}
+use Rattle.heap_laws.proofs.Allocating.{HasPage, has_page, place_small, committed-small, new_object, heap_with}
+use Rattle.heap_laws.proofs.ValidScripts.{script_command}
 use Rattle.std.proofs.lemmas.List.{get_or_push}
 use Rattle.lisp_heap.specs.Agreement.{Agrees, small_out}
 use Rattle.lisp_heap.specs.CellsView.{with_cell_word, CellsView}

@@ -11,7 +11,7 @@ use Rattle.heap_terms.specs.Simple.{with_field_at, object_with_field, with_field
 use Rattle.heap_terms.specs.Stands.{WordsStand, AreAt}
 use Rattle.heap_terms.specs.WellFormed.{IsWellFormed, AreApart, IsPlaced}
 use Rattle.heap_terms.specs.Words.{word_of, spelling}
-use Rattle.heap_terms.proofs.Places.{IfSome-at, IfSome-from, IsSome-from}
+use Rattle.heap_laws.proofs.AtPlaces.{IfSome-at, IfSome-from, IsSome-from}
 use Rattle.lisp_heap.proofs.ObjectLemmas.{word_of-with_field_at, name_below}
 use Rattle.lisp_heap.proofs.WordLemmas.{AreConses, cons_words, cons_at, cons_spelled, no_fillers, outside}
 

@@ -13,10 +13,8 @@ use Rattle.heap_terms.specs.Histories.{IsNext, IsOpening, after, command_at, nex
 use Rattle.heap_terms.specs.Layout.{page_words}
 use Rattle.heap_terms.specs.Regions.{IsRun, IsLowestRun, Wish, opened, with_run}
 use Rattle.heap_terms.specs.WellFormed.{IsWellFormed, IsOpenPage, IsOpenRunPage}
-use Rattle.heap_terms.proofs.Opening.{run_length, run_entry, run_cases}
-use Rattle.heap_terms.proofs.Others.{HasSameEntries}
-use Rattle.heap_terms.proofs.Standing.{after-well_formed}
-use Rattle.heap_terms.proofs.Threading.{open_page_used, open_run_used}
+use Rattle.heap_laws.proofs.SoundHeaps.{after-well_formed, open_page_used, open_run_used}
+use Rattle.heap_laws.proofs.Allocating.{run_length, run_entry, run_cases, HasSameEntries}
 use Rattle.lisp_heap.specs.Agreement.{Agrees, small_out}
 use Rattle.lisp_heap.specs.Parcels.{ParcelView, with_cons}
 use Rattle.lisp_heap.specs.Sound.{IsSound, parts_of}

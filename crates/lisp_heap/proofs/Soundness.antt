@@ -6,9 +6,8 @@ use Rattle.heap_terms.specs.Heap.{NamedHeap, object_at}
 use Rattle.heap_terms.specs.Histories.{replay}
 use Rattle.heap_terms.specs.Objects.{Object, Contents}
 use Rattle.heap_terms.specs.WellFormed.{IsWellFormed, HoldsLiving}
-use Rattle.heap_terms.proofs.Conses.{IsCons, only_conses, cons_contents}
-use Rattle.heap_terms.proofs.Places.{IfSome-at}
-use Rattle.heap_terms.proofs.Standing.{replay-well_formed}
+use Rattle.heap_laws.proofs.AtPlaces.{IfSome-at}
+use Rattle.heap_laws.proofs.SoundHeaps.{IsCons, only_conses, cons_contents, replay-well_formed}
 use Rattle.lisp_heap.specs.Sound.{IsSound}
 use Rattle.lisp_heap.specs.State.{state_of}
 use Rattle.lisp_heap.specs.declared.world.World.TheInside.{Inside}

@@ -12,8 +12,7 @@ use Rattle.heap_terms.specs.Objects.{Object}
 use Rattle.heap_terms.specs.Stands.{WordsStand}
 use Rattle.heap_terms.specs.Valid.{IsValid}
 use Rattle.heap_terms.specs.Words.{word_of}
-use Rattle.heap_terms.proofs.Counting.{start_thread_is}
-use Rattle.heap_terms.proofs.Threading.{start-well_formed}
+use Rattle.heap_laws.proofs.SoundHeaps.{start_thread_is, start-well_formed}
 use Rattle.lisp_heap.specs.CellsView.{CellsView, spot}
 use Rattle.lisp_heap.specs.Sound.{IsSound, parts_of}
 use Rattle.lisp_heap.specs.Standing.{CellsStand, LabelsStand, Parts, Holds}

@@ -15,10 +15,9 @@ use Rattle.heap_terms.specs.Histories.{IsNext, IsAnswer, after, after_command, a
 use Rattle.heap_terms.specs.Simple.{effect_of}
 use Rattle.heap_terms.specs.Valid.{IsValid}
 use Rattle.heap_terms.specs.WellFormed.{IsWellFormed}
-use Rattle.heap_terms.proofs.Appending.{Lawful-push, replay-push}
-use Rattle.heap_terms.proofs.Happenings.{next_parts}
-use Rattle.heap_terms.proofs.Scripts.{script_place, script_command}
-use Rattle.heap_terms.proofs.Standing.{effect-kept}
+use Rattle.heap_laws.proofs.SoundHeaps.{effect-kept}
+use Rattle.heap_laws.proofs.ValidScripts.{script_place, script_command}
+use Rattle.heap_laws.proofs.NextEvents.{Lawful-push, replay-push, next_parts}
 use Rattle.lisp_heap.specs.Agreement.{Agrees}
 use Rattle.lisp_heap.specs.Events.{Happens}
 use Rattle.lisp_heap.specs.Outcome.{IsOutcome, Makes, CanChange}

@@ -9,7 +9,7 @@ use Rattle.heap_terms.specs.Objects.{Object, Contents, ConsOf, words_of_object}
 use Rattle.heap_terms.specs.Stands.{WordsStand, AreAt}
 use Rattle.heap_terms.specs.WellFormed.{IsWellFormed, IsOwned}
 use Rattle.heap_terms.specs.Words.{word_of, spelling}
-use Rattle.heap_terms.proofs.Places.{IfSome-at}
+use Rattle.heap_laws.proofs.AtPlaces.{IfSome-at}
 
 -- each object is a cons: so far no other kind is built
 abbrev pub AreConses : List (Option Object) → Type 0

@@ -19,8 +19,8 @@ use Rattle.heap_terms.specs.Simple.{fields_at}
 use Rattle.heap_terms.specs.Valid.{IsCell, IsFixnum}
 use Rattle.heap_terms.specs.WellFormed.{IsLiving}
 use Rattle.heap_terms.specs.Words.{word_of, word_of_object}
-use Rattle.heap_terms.proofs.Living.{cell_living}
-use Rattle.heap_terms.proofs.Places.{IfSome-at, IsSome-value}
+use Rattle.heap_laws.proofs.AtPlaces.{IfSome-at, IsSome-value}
+use Rattle.heap_laws.proofs.SoundHeaps.{cell_living}
 use Rattle.lisp_words.specs.Tagged.{IsTagged, tag_bits}
 use Rattle.lisp_words.specs.declared.pointers.Lowtag.{Lowtag}
 use Rattle.lisp_words.specs.declared.pointers.Lowtag.TheVariants as lowtags

@@ -47,7 +47,7 @@ pub record StopRule {P : Type 0} (owner : P → ℕ) (n : ℕ) (s : State (Optio
 
 -- the view of the first seat
 abbrev pub first_view : View
-first_view = record { thread = 0; place = Parked; posted = []; seen = []; given = 1; steps = 0; word = 0; found = 0 }
+first_view = record { thread = 0; place = Parked; posted = []; seen = []; given = 1; steps = 0; word = 0; found = 0; left = 0 }
 
 -- the view of the first seat after a new seat was split off
 abbrev pub splitting : View → View
@@ -55,7 +55,7 @@ splitting v = record v { given = v.given + 1 }
 
 -- the view of the new seat
 abbrev pub split_off : View → View
-split_off v = record { thread = v.given; place = Parked; posted = []; seen = []; given = 0; steps = 0; word = 0; found = 0 }
+split_off v = record { thread = v.given; place = Parked; posted = []; seen = []; given = 0; steps = 0; word = 0; found = 0; left = 0 }
 
 -- the view of the first seat, once k numbers were given
 abbrev pub giving : ℕ → View

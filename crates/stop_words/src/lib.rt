@@ -8,6 +8,7 @@
 #![tactic(auto)]
 
 mod gather;
+pub mod laws;
 mod replies;
 mod rule;
 mod seats;

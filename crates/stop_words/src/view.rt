@@ -33,4 +33,6 @@ pub struct View {
     pub word: u64,
     /// What stood in that word.
     pub found: u64,
+    /// What the step left in it.
+    pub left: u64,
 }

@@ -1,7 +1,7 @@
 -- The parcels so far are fresh, and there is room for the rest.
 use Rattle.std.proofs.Common.{◌≡◌, ◌≢◌, ℕ, ◌+◌, ◌<◌, ◌++◌, List, [], ◌∷◌, length, arith, subst, ap, ◌∙◌, sym, refl, inl, inr}
 use Rattle.std.proofs.lemmas.List.{length_push}
-use Rattle.heap_terms.proofs.Places.{push_cases}
+use Rattle.heap_laws.proofs.AtPlaces.{push_cases}
 use Rattle.lisp_heap.specs.Agreement.{AreFresh}
 use Rattle.lisp_heap.specs.Parcels.{ParcelView, empty_parcel}
 use Rattle.lisp_heap.proofs.making.fresh_parcels.Goals as goal

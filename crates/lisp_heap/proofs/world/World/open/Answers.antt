@@ -6,7 +6,7 @@ use Rattle.heap_terms.specs.declared.kinds.PageType.TheVariants as types
 use Rattle.heap_terms.specs.declared.pages.Next.TheVariants as nexts
 use Rattle.heap_terms.specs.Histories.{command_at, after}
 use Rattle.heap_terms.specs.Regions.{IsLowestRun}
-use Rattle.heap_terms.proofs.Places.{IsSome-value}
+use Rattle.heap_laws.proofs.AtPlaces.{IsSome-value}
 use Rattle.lisp_heap.specs.Parcels.{with_cons}
 use Rattle.lisp_heap.specs.Standing.{Holds}
 use Rattle.lisp_heap.specs.View.{View, heap_of, next_of}

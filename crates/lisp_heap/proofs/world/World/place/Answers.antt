@@ -11,7 +11,7 @@ use Rattle.heap_terms.specs.Regions.{place_for, with_fill}
 use Rattle.heap_terms.specs.Heap.{entry_at, thread_at}
 use Rattle.heap_terms.specs.Words.{word_of}
 use Rattle.heap_terms.specs.Cells.{cell_value}
-use Rattle.heap_terms.proofs.Scripts.{script_built}
+use Rattle.heap_laws.proofs.ValidScripts.{script_built}
 use Rattle.lisp_heap.specs.Parcels.{with_accepted}
 use Rattle.lisp_heap.specs.View.{View, heap_of, next_of}
 use Rattle.lisp_heap.specs.declared.world.World.TheInside.{Inside}

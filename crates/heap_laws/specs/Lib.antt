@@ -1,0 +1,5 @@
+pub mod Remaining
+pub mod HeapRuns
+pub mod Order
+pub mod Plain
+pub mod Laws
