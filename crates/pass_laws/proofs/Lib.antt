@@ -1,1 +1,4 @@
 pub mod LiveNames
+pub mod Sizes
+pub mod FreeRuns
+pub mod Landing
