@@ -58,7 +58,7 @@ pub record Lands (s new : Placement) (o : Object) (index : ℕ) : Type 0 where
   pub above : (i : ℕ) → index ≤ i → i < index + words_of_object o → IsBelowFill s.pages i → ⊥
   pub in_use : AreInUse new
 
-used_inside : (pages : List Entry) (page : ℕ) (ty : PageType) (g fill first k : ℕ) → entry_at pages page ≡ Used ty g fill first k → page < length pages
+pub used_inside : (pages : List Entry) (page : ℕ) (ty : PageType) (g fill first k : ℕ) → entry_at pages page ≡ Used ty g fill first k → page < length pages
 used_inside pages page ty g fill first k e = elim (cases_lt page (length pages)) [
   | inl l ↦ l
   | inr l ↦ (let none : Free ≡ Used ty g fill first k = rw (get_or_past pages page Free l) at e in cc)
@@ -90,7 +90,7 @@ pub record HasRoom (s : Placement) (ty : PageType) (size page fill : ℕ) : Type
   pub even : fill % 2 ≡ 0
 
 -- a small object goes there
-small_lands : (s : Placement) (o : Object) (page fill : ℕ) → AreInUse s → is_small (words_of_object o) ≡ true →
+pub small_lands : (s : Placement) (o : Object) (page fill : ℕ) → AreInUse s → is_small (words_of_object o) ≡ true →
     HasRoom s (page_type_of (kind_of o.contents)) (words_of_object o) page fill →
     Lands s (using_page (record s { pages = set s.pages page (Used (page_type_of (kind_of o.contents)) scratch (fill + words_of_object o) page 1) }) (page_type_of (kind_of o.contents)) page)
     o (512 * page + fill)
@@ -145,7 +145,7 @@ small_lands s o page fill used small h =
     }
 
 -- a large object goes into a run
-large_lands : (s : Placement) (o : Object) (first : ℕ) → AreInUse s → is_small (words_of_object o) ≡ false →
+pub large_lands : (s : Placement) (o : Object) (first : ℕ) → AreInUse s → is_small (words_of_object o) ≡ false →
     AreFree s.pages first (pages_needed (words_of_object o)) →
     Lands s (record s { pages = taken_run s.pages (page_type_of (kind_of o.contents)) first (pages_needed (words_of_object o)) (words_of_object o) }) o (512 * first)
 large_lands s o first used large h =

@@ -2,3 +2,4 @@ pub mod LiveNames
 pub mod Sizes
 pub mod FreeRuns
 pub mod Landing
+pub mod Spreading
