@@ -1,5 +1,6 @@
--- Generations: which objects are of one, and how many words they take. That a collector has generations is SBCL's;
--- that there are seven of them, from 0 to 6, is as in SBCL too. Nothing is left free.
+-- Generations: which objects are of one, and how many words they take. That a collector has generations is SBCL's, and
+-- that the last is never collected is as in SBCL; that they are numbered 0 to 6 is this project's own. Nothing is left
+-- free.
 use Rattle.std.specs.Prelude.{ℕ, ◌==◌, List, length, Option, Some, None, Bool, false, sum_by, if◌then◌else◌}
 use Rattle.std.specs.List.{range_with_len}
 use Rattle.heap_terms.specs.Heap.{NamedHeap, object_at}

@@ -11,7 +11,6 @@ pub mod Generations
 pub mod PageViews
 pub mod Outcome
 pub mod Outcomes
-pub mod Simple
 pub mod Roots
 pub mod Live
 pub mod Survival
@@ -23,6 +22,9 @@ pub mod Regions
 pub mod Histories
 pub mod Complete
 pub mod Text
+pub mod Living
+pub mod OnPages
+pub mod Sound
 pub mod WellFormed
 pub mod Stands
 pub mod PageRuns

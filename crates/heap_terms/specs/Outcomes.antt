@@ -1,6 +1,6 @@
--- The table of outcomes: what each command comes to that allocates nothing, but for the thread's place in its script.
--- The commands are this project's own; each topic says what it takes from SBCL. Nothing is left free. (A command that
--- allocates stands here as what it comes to where its object finds no room: it is refused and changes nothing.)
+-- The table of outcomes: what each command comes to, but for the thread's place in its script. The commands are this
+-- project's own; each topic says what it takes from SBCL. Nothing is left free. A command that allocates stands here
+-- with what it comes to where its object finds no room and no run of free pages: it is refused and changes nothing.
 pub mod CellCommands
 pub mod FieldCommands
 pub mod RawCommands

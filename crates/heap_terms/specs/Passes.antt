@@ -18,8 +18,8 @@ use Rattle.heap_terms.specs.Roots.{is_pinned}
 use Rattle.heap_terms.specs.Survival.{surviving, culls_of, breaks_of, queued_of, registered}
 
 -- whether a record lists a name among its moves and stays, and among its pins
-abbrev pub is_moved : PassRecord → ℕ → Bool
-is_moved r name = list_any (λ (m : Placing). m.name == name) r.moves
+abbrev pub is_listed_move : PassRecord → ℕ → Bool
+is_listed_move r name = list_any (λ (m : Placing). m.name == name) r.moves
 
 abbrev pub is_listed_pin : PassRecord → ℕ → Bool
 is_listed_pin r name = list_any (λ (q : PinAt). q.name == name) r.pins
@@ -27,7 +27,7 @@ is_listed_pin r name = list_any (λ (q : PinAt). q.name == name) r.pins
 -- whether an object remains, read off the record: it is of another generation, or it is moved, stays or is pinned
 abbrev pub remains_at : PassRecord → ℕ → Option Object → Bool
 remains_at r name None = false
-remains_at r name (Some o) = not (o.generation == r.generation) || (is_moved r name || is_listed_pin r name)
+remains_at r name (Some o) = not (o.generation == r.generation) || (is_listed_move r name || is_listed_pin r name)
 
 abbrev pub remains : NamedHeap → PassRecord → ℕ → Bool
 remains a r name = remains_at r name (object_at a.objects name)

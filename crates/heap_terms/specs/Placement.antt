@@ -1,6 +1,6 @@
--- Where the objects go that a pass moves, in a given order. That a copying collector puts objects of one type one after
--- the other is SBCL's; the page in use of each type, the lowest free page or run, and that an object which finds no
--- place stays, are this project's own. The order is the collector's free choice; given it, nothing else is left free.
+-- Where the objects go that a pass moves, in a given order. That a pass copies is SBCL's; where it copies to, and that an
+-- object which finds no place stays, is this project's own. The order is the collector's free choice; given it, nothing
+-- else is left free.
 use Rattle.std.specs.Prelude.{◌≡◌, ℕ, ◌+◌, ◌-◌, ◌*◌, ◌/◌, ◌%◌, ◌&&◌, List, [], ◌∷◌, ◌++◌, length, take, drop, replicate, find, Option, Some, None, option_map, Bool, false, if◌then◌else◌, nat_le, slice_set}
 use Rattle.std.specs.List.{list_all, range_with_len}
 use Rattle.heap_terms.specs.declared.events.Placing.{Placing}
@@ -13,7 +13,7 @@ use Rattle.heap_terms.specs.Layout.{page_words, page_type_of}
 use Rattle.heap_terms.specs.Objects.{Object, kind_of, words_of_object}
 use Rattle.heap_terms.specs.Regions.{is_free, is_small, pages_needed}
 
--- pages that a pass takes carry this generation until its end; as SBCL's scratch generation, no page has it between passes
+-- pages that a pass takes carry this generation, which no page has between passes, until its end
 abbrev pub scratch : ℕ
 scratch = 7
 

@@ -9,15 +9,16 @@ use Rattle.heap_terms.specs.Heap.{NamedHeap}
 unfoldable pub promotes : Bool
 promotes = false
 
--- a generation is raised once so many passes over it did not raise
+-- a generation is raised once so many passes over it did not raise it, or at once where an older one is asked for
 abbrev pub before : ℕ
 before = 1
 
--- a generation is not collected while it has at most so many words
+-- an older generation than those that are asked for is collected only where it has more words than this
 abbrev pub between : ℕ
 between = 1024
 
--- the words that came into a generation since it was collected, and the passes over it since it was raised
+-- `cum` of a generation: at each raise into it since it was last collected, the words that were in it before, added up;
+-- divided by its words it is its average age. `num`: the passes over it since it was last raised.
 abbrev pub cum_of : NamedHeap → ℕ → ℕ
 cum_of a g = slice_index_or a.cum g 0
 
@@ -28,14 +29,14 @@ num_of a g = slice_index_or a.num g 0
 abbrev pub is_raised : NamedHeap → ℕ → ℕ → Bool
 is_raised a last g = nat_lt g 5 && (nat_lt g last || nat_le before (num_of a g))
 
--- whether more than three quarters of the words of a generation came in since it was collected
-abbrev pub is_young : NamedHeap → ℕ → Bool
-is_young a g = nat_lt (3 * allocated a g) (4 * cum_of a g)
+-- whether the average age of a generation is above three quarters
+abbrev pub has_age : NamedHeap → ℕ → Bool
+has_age a g = nat_lt (3 * allocated a g) (4 * cum_of a g)
 
 -- whether the collection goes on with generation g + 1, in the heap after the pass over g
 abbrev pub is_continued : NamedHeap → ℕ → ℕ → Bool → Bool
 is_continued a last g raised =
-    nat_lt g 5 && (nat_le (g + 1) last || (raised && (nat_lt between (allocated a (g + 1)) && is_young a (g + 1))))
+    nat_lt g 5 && (nat_le (g + 1) last || (raised && (nat_lt between (allocated a (g + 1)) && has_age a (g + 1))))
 
 -- the two tests that a collection makes
 unfoldable pub raises : NamedHeap → ℕ → ℕ → Bool
@@ -54,6 +55,6 @@ abbrev pub cum_after : NamedHeap → ℕ → Bool → List ℕ
 cum_after a g raised =
     slice_set (if raised then slice_set a.cum (g + 1) (cum_of a (g + 1) + allocated a (g + 1)) else a.cum) g 0
 
--- `num` after it: one more pass over g that did not raise it, or none since now
+-- `num` after it: one pass more over g that did not raise it, and 0 where it was raised
 abbrev pub num_after : NamedHeap → ℕ → Bool → List ℕ
 num_after a g raised = slice_set a.num g (if raised then 0 else num_of a g + 1)

@@ -24,22 +24,15 @@ contents_of (Some o) = Some o.contents
 abbrev pub contents_at : List (Option Object) → Value → Option Contents
 contents_at objects v = option_and_then (λ name. contents_of (object_at objects name)) (name_in v)
 
--- the fields of an object, if it is there and has fields
-abbrev pub fields_of_object : Option Object → Option (List Value)
-fields_of_object None = None
-fields_of_object (Some o) = fields_of o.contents
-
--- the fields of the object that a value refers to, if it refers to a cons, vector, instance or closure
+-- its fields, if it is a cons, vector, instance or closure
 abbrev pub fields_at : List (Option Object) → Value → Option (List Value)
-fields_at objects (values.Fix n) = None
-fields_at objects values.Nil = None
-fields_at objects values.Unbound = None
-fields_at objects (values.Ref name) = fields_of_object (object_at objects name)
+fields_at objects v = option_and_then fields_of (contents_at objects v)
 
 -- the contents with one field changed
 abbrev pub with_field : Contents → ℕ → Value → Contents
 with_field (ConsOf a b) zero v = ConsOf v b
-with_field (ConsOf a b) (suc i) v = ConsOf a v
+with_field (ConsOf a b) (suc zero) v = ConsOf a v
+with_field (ConsOf a b) (suc (suc i)) v = ConsOf a b
 with_field (VectorOf vs) i v = VectorOf (slice_set vs i v)
 with_field (InstanceOf vs) i v = InstanceOf (slice_set vs i v)
 with_field (ClosureOf vs) i v = ClosureOf (slice_set vs i v)
@@ -57,6 +50,10 @@ raws_of (WordsOf ws) = Some ws
 raws_of (WeakTo v) = None
 raws_of (TableOf w b pairs) = None
 
+-- those of the object that a value refers to
+abbrev pub raws_at : List (Option Object) → Value → Option (List ℕ)
+raws_at objects v = option_and_then raws_of (contents_at objects v)
+
 -- what a weak pointer points to
 abbrev pub pointee_of : Contents → Option Value
 pointee_of (ConsOf a b) = None
@@ -66,6 +63,10 @@ pointee_of (ClosureOf vs) = None
 pointee_of (WordsOf ws) = None
 pointee_of (WeakTo v) = Some v
 pointee_of (TableOf w b pairs) = None
+
+-- what the weak pointer that a value refers to points to
+abbrev pub pointee_at : List (Option Object) → Value → Option Value
+pointee_at objects v = option_and_then pointee_of (contents_at objects v)
 
 -- a table: its weakness, its capacity and its pairs
 pub record Table : Type 0 where
@@ -81,6 +82,10 @@ table_of (ClosureOf vs) = None
 table_of (WordsOf ws) = None
 table_of (WeakTo v) = None
 table_of (TableOf w b pairs) = Some (record { weakness = w; capacity = b; pairs = pairs })
+
+-- the table that a value refers to
+abbrev pub table_at : List (Option Object) → Value → Option Table
+table_at objects v = option_and_then table_of (contents_at objects v)
 
 -- the contents with raw words, or with pairs, in place of those that were there
 abbrev pub with_raws : Contents → List ℕ → Contents
@@ -112,3 +117,7 @@ changed_at objects (values.Fix n) change = objects
 changed_at objects values.Nil change = objects
 changed_at objects values.Unbound change = objects
 changed_at objects (values.Ref name) change = slice_set objects name (refilled (object_at objects name) change)
+
+-- the objects after a field of the one that a value refers to was changed
+abbrev pub with_field_at : List (Option Object) → Value → ℕ → Value → List (Option Object)
+with_field_at objects at i v = changed_at objects at (λ k. with_field k i v)

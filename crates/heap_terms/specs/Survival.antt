@@ -1,6 +1,6 @@
--- What a pass leaves of an object, given which names are live: the pairs that a table keeps, and that a weak pointer
--- to a dead name becomes broken. The rules by weakness are those of SBCL's manual; that the remaining pairs keep their
--- order is this project's own. Nothing is left free.
+-- What a pass leaves of an object and of the finalizers, given which names are live: the pairs that a table keeps, that
+-- a weak pointer to a dead name becomes broken, and that a dead object's finalizers are queued. These rules are those of
+-- SBCL's manual; the order of what remains and of the queue is this project's own. Nothing is left free.
 use Rattle.std.specs.Prelude.{ℕ, ◌&&◌, ◌||◌, not, List, [], ◌∷◌, map, filter, flat_map, Option, Some, None, Bool, true, false, if◌then◌else◌}
 use Rattle.heap_terms.specs.declared.cells.Value.{Value}
 use Rattle.heap_terms.specs.declared.cells.Value.TheVariants as values

@@ -6,7 +6,7 @@ use Rattle.heap_terms.specs.declared.cells.Cell.{Cell}
 use Rattle.heap_terms.specs.Cells.{cell_value, with_cell}
 use Rattle.heap_terms.specs.Heap.{NamedHeap, zero_value}
 use Rattle.heap_terms.specs.Outcome.{Outcome, done, answering, needing, indexing}
-use Rattle.heap_terms.specs.Referents.{fields_at, with_field, changed_at}
+use Rattle.heap_terms.specs.Referents.{fields_at, with_field_at}
 
 -- d becomes field i of the object in c
 abbrev pub getting : NamedHeap → ℕ → Cell → Cell → ℕ → Outcome
@@ -17,4 +17,4 @@ getting a t d c i = needing (fields_at a.objects (cell_value a t c)) a (λ vs.
 abbrev pub putting : NamedHeap → ℕ → Cell → ℕ → Cell → Outcome
 putting a t c i b = needing (fields_at a.objects (cell_value a t c)) a (λ vs.
     indexing vs i zero_value a (λ _.
-    done (record a { objects = changed_at a.objects (cell_value a t c) (λ k. with_field k i (cell_value a t b)) })))
+    done (record a { objects = with_field_at a.objects (cell_value a t c) i (cell_value a t b) })))

@@ -10,7 +10,7 @@ use Rattle.heap_terms.specs.Heap.{NamedHeap}
 use Rattle.heap_terms.specs.Objects.{Object}
 use Rattle.heap_terms.specs.Outcome.{Outcome, done, answering, needing, indexing}
 use Rattle.heap_terms.specs.RawCells.{raw_value, with_raw, word_plus}
-use Rattle.heap_terms.specs.Referents.{contents_at, raws_of, with_raws, changed_at}
+use Rattle.heap_terms.specs.Referents.{raws_at, with_raws, changed_at}
 use Rattle.heap_terms.specs.Words.{word_of}
 
 -- r becomes a word, which is the answer too
@@ -27,10 +27,6 @@ setting_raw a t r word = done (with_raw a t r word)
 -- r becomes r + k modulo 2^64
 abbrev pub adding_raw : NamedHeap → ℕ → Raw → ℤ → Outcome
 adding_raw a t r k = taking a t r (word_plus (raw_value a t r) k)
-
--- the raw words of the object that a value refers to, if it refers to one that has them
-abbrev pub raws_at : List (Option Object) → Value → Option (List ℕ)
-raws_at objects v = option_and_then raws_of (contents_at objects v)
 
 -- r becomes raw word i of the object in c
 abbrev pub getting_raw : NamedHeap → ℕ → Raw → Cell → ℕ → Outcome

@@ -11,11 +11,7 @@ use Rattle.heap_terms.specs.Heap.{NamedHeap}
 use Rattle.heap_terms.specs.Objects.{Object}
 use Rattle.heap_terms.specs.Outcome.{Outcome, done, answering, refused, needing}
 use Rattle.heap_terms.specs.Pairs.{has_key, value_at, with_pair, without_key}
-use Rattle.heap_terms.specs.Referents.{Table, contents_at, table_of, with_pairs, changed_at}
-
--- the table that a value refers to
-abbrev pub table_at : List (Option Object) → Value → Option Table
-table_at objects v = option_and_then table_of (contents_at objects v)
+use Rattle.heap_terms.specs.Referents.{table_at, with_pairs, changed_at}
 
 -- the heap in which the table that a value refers to has other pairs
 abbrev pub with_pairs_at : NamedHeap → Value → List (Value × Value) → NamedHeap

@@ -9,11 +9,7 @@ use Rattle.heap_terms.specs.Cells.{cell_value, with_cell}
 use Rattle.heap_terms.specs.Heap.{NamedHeap}
 use Rattle.heap_terms.specs.Objects.{Object}
 use Rattle.heap_terms.specs.Outcome.{Outcome, answering, needing}
-use Rattle.heap_terms.specs.Referents.{contents_at, pointee_of}
-
--- what the weak pointer that a value refers to points to
-abbrev pub pointee_at : List (Option Object) → Value → Option Value
-pointee_at objects v = option_and_then pointee_of (contents_at objects v)
+use Rattle.heap_terms.specs.Referents.{pointee_at}
 
 -- a broken weak pointer points to Unbound
 abbrev pub weak_outcome : NamedHeap → ℕ → Cell → Value → Outcome
