@@ -13,7 +13,7 @@ use Rattle.heap_terms.specs.Layout.{page_words, page_type_of}
 use Rattle.heap_terms.specs.Objects.{Object, kind_of, words_of_object}
 use Rattle.heap_terms.specs.Placement.{Placement, scratch, page_in_use, using_page, fits_on, end_of, goes_to, lowest_run, taken_run, filled}
 use Rattle.heap_terms.specs.Regions.{is_small, pages_needed}
-use Rattle.heap_terms.specs.WellFormed.{IsFill, IsPlaced, IsOnPage, IsPageOfRun}
+use Rattle.heap_terms.specs.OnPages.{IsFill, IsPlaced, IsOnPage, IsPageOfRun, SaysOfRun, IsInRun}
 use Rattle.pass_laws.proofs.FreeRuns.{AreFree, lowest_free, IsTakenRun, taken_entries}
 use Rattle.pass_laws.proofs.Sizes.{IsBelowFill, words_least, words_even, small_most, large_least, small_needs, large_needs, needs_least}
 
@@ -57,6 +57,7 @@ pub record Lands (s new : Placement) (o : Object) (index : ℕ) : Type 0 where
   pub placed : IsPlaced new.pages (moved_object o index)
   pub above : (i : ℕ) → index ≤ i → i < index + words_of_object o → IsBelowFill s.pages i → ⊥
   pub in_use : AreInUse new
+  pub runs : (page : ℕ) → entry_at s.pages page ≡ Free → IsInRun new.pages page (entry_at new.pages page)
 
 pub used_inside : (pages : List Entry) (page : ℕ) (ty : PageType) (g fill first k : ℕ) → entry_at pages page ≡ Used ty g fill first k → page < length pages
 used_inside pages page ty g fill first k e = elim (cases_lt page (length pages)) [
@@ -142,7 +143,26 @@ small_lands s o page fill used small h =
           | inr apart ↦ rw same (was.0, get_or-set_other s.pages page q e Free apart ∙ was.1, was.2)
         ])
       ];
+      runs = λ q free. elim (cases_eq q page) [
+        | inl is ↦ rw (same, is, here) (omega arith, omega arith, rw (length-set s.pages page e) (omega arith), λ i l.
+          (let at : page + i ≡ page = omega arith in rw (at, here) (refl, refl, refl, refl)))
+        | inr apart ↦ rw (same, get_or-set_other s.pages page q e Free apart, free) tt
+      ];
     }
+
+-- all pages of a run that was taken say the same
+says_at : {pages new : List Entry} {ty : PageType} {first k size : ℕ} → IsTakenRun pages new ty first k size → 1 ≤ k → (i : ℕ) → i < k →
+    SaysOfRun ty scratch first k (entry_at new (first + i))
+says_at {new = new} {ty = ty} {first = first} {k = k} run least i l = elim (cases_lt (i + 1) k) [
+  | inl more ↦ rw (run.full i more) (refl, refl, refl, refl)
+  | inr end ↦ (let is : i ≡ k - 1 = omega arith in rw (is, run.last) (refl, refl, refl, refl))
+]
+
+in_run : (pages : List Entry) (page first k : ℕ) (ty : PageType) (e : Entry) → SaysOfRun ty scratch first k e → first ≤ page → page < first + k →
+    first + k ≤ length pages → ((i : ℕ) → i < k → SaysOfRun ty scratch first k (entry_at pages (first + i))) → IsInRun pages page e
+in_run pages page first k ty Free says from below inside all = absurd says
+in_run pages page first k ty (Used other g fill start n) says from below inside all =
+    rw (says.0, says.1, says.2, says.3) (from, below, inside, all)
 
 -- a large object goes into a run
 pub large_lands : (s : Placement) (o : Object) (first : ℕ) → AreInUse s → is_small (words_of_object o) ≡ false →
@@ -209,4 +229,13 @@ large_lands s o first used large h =
             | inl l ↦ (was.0, run.below q l ∙ was.1, was.2)
             | inr m ↦ (was.0, run.above q m ∙ was.1, was.2)
           ]);
+      runs = λ q free. elim (cases_lt q first) [
+        | inl l ↦ rw (run.below q l, free) tt
+        | inr l ↦ elim (cases_lt q (first + k)) [
+          | inr m ↦ rw (run.above q m, free) tt
+          | inl m ↦ (let at : first + (q - first) ≡ q = omega arith in
+              let says : SaysOfRun ty scratch first k (entry_at pages q) = subst (λ (x : ℕ). SaysOfRun ty scratch first k (entry_at pages x)) at (says_at run enough.0 (q - first) (omega arith)) in
+              in_run pages q first k ty (entry_at pages q) says (omega arith) (omega arith) (rw run.lengths inside) (λ i n. says_at run enough.0 i n))
+        ]
+      ];
     }

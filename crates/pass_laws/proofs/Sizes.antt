@@ -10,7 +10,7 @@ use Rattle.heap_terms.specs.Heap.{entry_at, fill_of}
 use Rattle.heap_terms.specs.Layout.{page_words, size_of, size_with_header}
 use Rattle.heap_terms.specs.Objects.{Object, kind_of, payload_of, words_of_object}
 use Rattle.heap_terms.specs.Regions.{is_small, pages_needed}
-use Rattle.heap_terms.specs.WellFormed.{IsPlaced, IsOnPage, IsPageOfRun, AreApart}
+use Rattle.heap_terms.specs.OnPages.{IsPlaced, IsOnPage, IsPageOfRun, AreApart}
 
 pub size_even : (kind : Kind) (n : ℕ) → size_of kind n % 2 ≡ 0
 size_even kinds.Cons n = refl

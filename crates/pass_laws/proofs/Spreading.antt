@@ -1,10 +1,11 @@
 -- A placement keeps the layout: at each moment the objects, at their places so far, lie as they must and apart.
 use Rattle.std.proofs.Common.{◌≡◌, ℕ, zero, suc, ◌+◌, ◌-◌, ◌*◌, ◌/◌, ◌%◌, ◌<◌, ◌≤◌, List, [], ◌∷◌, ◌++◌, length, get_or, set, Option, Some, None, Bool, true, false, ◌⊎◌, inl, inr, refl, sym, ◌∙◌, subst, ap, arith}
 use Rattle.std.proofs.lemmas.Bool.{cases_lt, cases_eq, cases_Bool, and_parts, and_cases, or_parts, or_from, leb-true, false≢true, cond-false, eq-eqb, ne_eqb}
+use Rattle.std.proofs.lemmas.List.Elements.{All-push, All-nil}
 use Rattle.std.proofs.lemmas.List.Folds.{list_any-append}
 use Rattle.std.proofs.lemmas.Option.{same_Some}
 use Rattle.std.specs.List.{list_any}
-use Rattle.std.specs.Prelude.{AllPairs, option_map, ◌&&◌, ◌||◌, ◌==◌, if◌then◌else◌, ◌≢◌}
+use Rattle.std.specs.Prelude.{All, AllPairs, option_map, ◌&&◌, ◌||◌, ◌==◌, if◌then◌else◌, ◌≢◌}
 use Rattle.heap_terms.specs.declared.events.Placing.{Placing}
 use Rattle.heap_terms.specs.declared.kinds.PageType.{PageType}
 use Rattle.heap_terms.specs.declared.kinds.PageType.TheVariants as types
@@ -16,7 +17,8 @@ use Rattle.heap_terms.specs.Objects.{Object, kind_of, words_of_object}
 use Rattle.heap_terms.specs.Passes.{moved_to}
 use Rattle.heap_terms.specs.Placement.{Placement, scratch, no_placement, page_in_use, using_page, fits_on, end_of, goes_to, lowest_run, taken_run, filled, with_move, place_object, placing_from, placement}
 use Rattle.heap_terms.specs.Regions.{is_small, pages_needed}
-use Rattle.heap_terms.specs.WellFormed.{IsFill, IsEntry, IsPlaced, IsOnPage, IsPageOfRun, AreApart}
+use Rattle.heap_terms.specs.Sound.{IsSound}
+use Rattle.heap_terms.specs.OnPages.{IsFill, IsEntry, IsPlaced, IsOnPage, IsPageOfRun, AreApart, SaysOfRun, IsInRun}
 use Rattle.pass_laws.proofs.FreeRuns.{AreFree, lowest_free}
 use Rattle.pass_laws.proofs.Landing.{IsTaken, IsFilled, EntryStep, AreInUse, moved_object, Lands, HasRoom, small_lands, large_lands, used_inside}
 use Rattle.pass_laws.proofs.Sizes.{IsBelowFill, words_least, words_even, small_most, large_needs, large_least, small_needs, apart_above, apart_swapped}
@@ -132,6 +134,31 @@ IsPlaced-step pages new o same steps h = record {
   large = λ large i l. IsPageOfRun-step o i _ (entry_at new (o.place / page_words + i)) large (steps (o.place / page_words + i)) (h.large large i l);
 }
 
+-- and a page in its run
+SaysOfRun-step : (ty : PageType) (g first k : ℕ) (e new : Entry) → EntryStep e new → SaysOfRun ty g first k e → SaysOfRun ty g first k new
+SaysOfRun-step ty g first k e new (inl same) h = rw same h
+SaysOfRun-step ty g first k e new (inr (inl taken)) h = absurd (rw taken.0 at h)
+SaysOfRun-step ty g first k e new (inr (inr filled)) h =
+    let was : SaysOfRun ty g first k (Used filled.ty scratch filled.fill filled.page 1) = subst (λ (x : Entry). SaysOfRun ty g first k x) filled.entry h in
+    rw filled.entry_new was
+
+IsInRun-same : (pages new : List Entry) (page : ℕ) (e : Entry) → length new ≡ length pages → ((page : ℕ) → EntryStep (entry_at pages page) (entry_at new page)) →
+    IsInRun pages page e → IsInRun new page e
+IsInRun-same pages new page Free same steps h = tt
+IsInRun-same pages new page (Used ty g fill first k) same steps h =
+    (h.0, h.1, rw same h.2, λ i l. SaysOfRun-step ty g first k _ (entry_at new (first + i)) (steps (first + i)) (h.3 i l))
+
+IsInRun-step : (pages new : List Entry) (page : ℕ) → length new ≡ length pages → ((page : ℕ) → EntryStep (entry_at pages page) (entry_at new page)) →
+    (entry_at pages page ≡ Free → IsInRun new page (entry_at new page)) → IsInRun pages page (entry_at pages page) → IsInRun new page (entry_at new page)
+IsInRun-step pages new page same steps taken h = go (steps page)
+  where
+    go : EntryStep (entry_at pages page) (entry_at new page) → IsInRun new page (entry_at new page)
+    go (inl kept) = rw kept (IsInRun-same pages new page (entry_at pages page) same steps h)
+    go (inr (inl took)) = taken took.0
+    go (inr (inr filled)) =
+        let was : IsInRun pages page (Used filled.ty scratch filled.fill filled.page 1) = subst (λ (x : Entry). IsInRun pages page x) filled.entry h in
+        rw filled.entry_new (IsInRun-same pages new page (Used filled.ty scratch filled.fill filled.page 1) same steps was)
+
 -- an object at its place so far
 abbrev pub settled : Option ℕ → Object → Object
 settled None o = o
@@ -165,12 +192,18 @@ moved_to-none [] name none = refl
 moved_to-none (k ∷ rest) name none =
     let both = or_parts (k.name == name) (is_in rest name) none in rw both.0 (moved_to-none rest name both.1)
 
+-- a move tells where its object was
+abbrev pub IsMoveOf : NamedHeap → Placing → Type 0
+IsMoveOf a m = (o : Object) × (object_at a.objects m.name ≡ Some o) × (m.old ≡ o.place)
+
 -- what holds of a placement so far, over the heap before the pass
 pub record IsPlacing (a : NamedHeap) (s : Placement) : Type 0 where
   pub lengths : length s.pages ≡ length a.pages
   pub fresh : (page : ℕ) → (entry_at s.pages page ≡ entry_at a.pages page) ⊎ ((entry_at a.pages page ≡ Free) × IsTaken (entry_at s.pages page))
   pub in_use : AreInUse s
   pub spread : IsSpread a.objects s.moves s.pages
+  pub runs : (page : ℕ) → IsInRun s.pages page (entry_at s.pages page)
+  pub olds : All (IsMoveOf a) s.moves
 
 -- pages are of generations that are collected
 abbrev pub AreEntries : List Entry → Type 0
@@ -251,11 +284,13 @@ placing-move a s name index o entries h e none new l same =
           ]
         ];
       };
+      runs = λ page. IsInRun-step s.pages new.pages page l.lengths l.steps (l.runs page) (h.runs page);
+      olds = rw same (All-push (IsMoveOf a) s.moves m h.olds (o, e, refl));
     }
 
 -- a stay changes nothing
-placing-stay : (a : NamedHeap) (s : Placement) (name : ℕ) (o : Object) → IsPlacing a s → is_in s.moves name ≡ false → IsPlacing a (with_move s name o.place None)
-placing-stay a s name o h none =
+placing-stay : (a : NamedHeap) (s : Placement) (name : ℕ) (o : Object) → IsPlacing a s → object_at a.objects name ≡ Some o → is_in s.moves name ≡ false → IsPlacing a (with_move s name o.place None)
+placing-stay a s name o h e none =
     let m : Placing = record { name = name; old = o.place; new = None } in
     let same : (x : ℕ) → moved_to (s.moves ++ m ∷ []) x ≡ moved_to s.moves x = λ x. elim (cases_eq name x) [
       | inl is ↦ subst (λ (y : ℕ). moved_to (s.moves ++ m ∷ []) y ≡ moved_to s.moves y) is (moved_to-here s.moves m none ∙ sym (moved_to-none s.moves name none))
@@ -269,6 +304,8 @@ placing-stay a s name o h none =
         placed = λ x q f. rw (same x) (h.spread.placed x q f);
         apart = λ x y q r apart f f'. rw (same x, same y) (h.spread.apart x y q r apart f f');
       };
+      runs = h.runs;
+      olds = All-push (IsMoveOf a) s.moves m h.olds (o, e, refl);
     }
 
 -- one object
@@ -278,7 +315,7 @@ placing-next a s name entries h none = go (object_at a.objects name) refl
   where
     landed : (o : Object) (to : Option ℕ) → object_at a.objects name ≡ Some o → goes_to s (page_type_of (kind_of o.contents)) (words_of_object o) ≡ to →
         IsPlacing a (with_move (filled s (page_type_of (kind_of o.contents)) (words_of_object o) to) name o.place to)
-    landed o None e is = placing-stay a s name o h none
+    landed o None e is = placing-stay a s name o h e none
     landed o (Some index) e is =
         placing-move a s name index o entries h e none (filled s (page_type_of (kind_of o.contents)) (words_of_object o) (Some index))
         (lands s o index h.in_use is) (filled-moves s (page_type_of (kind_of o.contents)) (words_of_object o) index)
@@ -320,12 +357,15 @@ placing-all a s (name ∷ rest) entries h new =
 
 -- the start
 pub placing-start : (a : NamedHeap) → ((x : ℕ) (o : Object) → object_at a.objects x ≡ Some o → IsPlaced a.pages o) →
-    ((x y : ℕ) (o q : Object) → x ≢ y → object_at a.objects x ≡ Some o → object_at a.objects y ≡ Some q → AreApart o q) → IsPlacing a (no_placement a.pages)
-placing-start a placed apart = record {
+    ((x y : ℕ) (o q : Object) → x ≢ y → object_at a.objects x ≡ Some o → object_at a.objects y ≡ Some q → AreApart o q) →
+    ((page : ℕ) → IsInRun a.pages page (entry_at a.pages page)) → IsPlacing a (no_placement a.pages)
+placing-start a placed apart runs = record {
   lengths = refl;
   fresh = λ page. inl refl;
   in_use = none_in_use;
   spread = record { placed = placed; apart = apart };
+  runs = runs;
+  olds = All-nil (IsMoveOf a);
 }
   where
     none_in_use : (ty : PageType) (page : ℕ) → page_in_use (no_placement a.pages) ty ≡ Some page → (fill : ℕ) × (entry_at a.pages page ≡ Used ty scratch fill page 1) × IsFill fill
@@ -334,9 +374,9 @@ placing-start a placed apart = record {
     none_in_use types.Unboxed page e = cc
 
 -- the placement of names that are apart keeps the layout
-pub placement-keeps : (a : NamedHeap) (order : List ℕ) → AreEntries a.pages → ((x : ℕ) (o : Object) → object_at a.objects x ≡ Some o → IsPlaced a.pages o) →
-    ((x y : ℕ) (o q : Object) → x ≢ y → object_at a.objects x ≡ Some o → object_at a.objects y ≡ Some q → AreApart o q) →
-    ((i j : ℕ) → i < j → j < length order → get_or order i 0 ≢ get_or order j 0) → IsPlacing a (placement a order)
+pub placement-keeps : (a : NamedHeap) (order : List ℕ) → IsSound a → ((i j : ℕ) → i < j → j < length order → get_or order i 0 ≢ get_or order j 0) →
+    IsPlacing a (placement a order)
 unfolding placement
-placement-keeps a order entries placed apart once =
-    placing-all a (no_placement a.pages) order entries (placing-start a placed apart) (record { new = λ i l. refl; once = once })
+placement-keeps a order sound once =
+    placing-all a (no_placement a.pages) order sound.entries
+    (placing-start a (λ x o e. (sound.objects x o e).placed) sound.apart sound.runs) (record { new = λ i l. refl; once = once })
