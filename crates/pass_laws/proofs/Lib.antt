@@ -1,0 +1,5 @@
+pub mod LiveNames
+pub mod Sizes
+pub mod FreeRuns
+pub mod Landing
+pub mod Spreading
