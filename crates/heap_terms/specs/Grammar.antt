@@ -8,6 +8,7 @@ use Rattle.heap_terms.specs.declared.commands.Command.TheVariants as commands
 use Rattle.heap_terms.specs.declared.faults.Why.{Why}
 use Rattle.heap_terms.specs.declared.faults.Why.TheVariants.{Word, Fields, Form}
 use Rattle.heap_terms.specs.declared.kinds.Weakness.{Weakness}
+use Rattle.heap_terms.specs.declared.limits.TheConstants.{MOST_ELEMENTS, MOST_PAIRS, OLDEST_GENERATION}
 use Rattle.heap_terms.specs.Fields.{◌>>=◌, number_of, signed_of, raw_word_of, cell_of, raw_cell_of, weakness_of, ranged, between, at_least, at_most, is_fixnum, is_i64, is_auto, turns_of}
 
 -- what a field may be; a number has a test of its range
@@ -66,7 +67,7 @@ said_of (form ∷ forms) says (field ∷ fields) = meaning_of form field >>= λ 
 
 -- ranges of number fields: an index or a count of elements, a number of 32 bits
 abbrev pub Small : FieldForm
-Small = Number (at_most 65535)
+Small = Number (at_most MOST_ELEMENTS)
 
 abbrev pub Wide : FieldForm
 Wide = Number (at_most 4294967295)
@@ -92,7 +93,7 @@ rows =
     ∷ row (codes "closure") (LispCell ∷ Small ∷ []) (λ d n. Does (commands.NewClosure d n))
     ∷ row (codes "words") (LispCell ∷ Small ∷ RawWord ∷ []) (λ d n w. Does (commands.NewWords d n w))
     ∷ row (codes "weak") (LispCell ∷ LispCell ∷ []) (λ d c. Does (commands.NewWeak d c))
-    ∷ row (codes "table") (LispCell ∷ WeaknessWord ∷ Number (between 1 64) ∷ []) (λ d w b. Does (commands.NewTable d w b))
+    ∷ row (codes "table") (LispCell ∷ WeaknessWord ∷ Number (between 1 MOST_PAIRS) ∷ []) (λ d w b. Does (commands.NewTable d w b))
     ∷ row (codes "get") (LispCell ∷ LispCell ∷ Small ∷ []) (λ d c i. Does (commands.Get d c i))
     ∷ row (codes "put") (LispCell ∷ Small ∷ LispCell ∷ []) (λ c i a. Does (commands.Put c i a))
     ∷ row (codes "rawget") (RawCell ∷ LispCell ∷ Small ∷ []) (λ r c i. Does (commands.RawGet r c i))
@@ -116,7 +117,7 @@ rows =
     ∷ row (codes "nogc") [] (Does commands.Inhibit)
     ∷ row (codes "gcok") [] (Does commands.Allow)
     ∷ row (codes "page") (Wide ∷ []) (λ p. Does (commands.ShowPage p))
-    ∷ row (codes "stat") (Number (at_most 6) ∷ []) (λ g. Does (commands.Stat g))
+    ∷ row (codes "stat") (Number (at_most OLDEST_GENERATION) ∷ []) (λ g. Does (commands.Stat g))
     ∷ []
 
 -- what a row's line says: first the number of its fields is judged, then each field

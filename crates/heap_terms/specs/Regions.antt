@@ -14,6 +14,7 @@ use Rattle.heap_terms.specs.declared.kinds.PageType.TheVariants as types
 use Rattle.heap_terms.specs.declared.pages.Entry.{Entry}
 use Rattle.heap_terms.specs.declared.pages.Entry.TheVariants as entries
 use Rattle.heap_terms.specs.declared.programs.Program.{Program}
+use Rattle.heap_terms.specs.declared.limits.TheConstants.{MOST_TRIGGERS}
 use Rattle.heap_terms.specs.Cells.{cell_value, with_cell}
 use Rattle.heap_terms.specs.Heap.{NamedHeap, Thread, thread_at, with_thread, entry_at, fill_of, open_page, with_open_page, zero_value}
 use Rattle.heap_terms.specs.Layout.{page_words, page_type_of, size_of, weakness_number}
@@ -148,7 +149,7 @@ is_small size = nat_le size page_words
 
 -- a small object needs one page, a large one a run of its own
 abbrev pub pages_needed : ℕ → ℕ
-pages_needed size = if is_small size then 1 else (size + 511) / page_words
+pages_needed size = if is_small size then 1 else (size + (page_words - 1)) / page_words
 
 -- whether a page has room for that many words more; a free page has none
 abbrev pub entry_has_room : Entry → ℕ → Bool
@@ -263,7 +264,7 @@ run_used th size = if is_small size then th else record th { open_run = None }
 
 -- whether a commit of that size lets `auto` ask for a collection: its words reach W, and fewer than 64 did before
 abbrev pub triggers : Program → NamedHeap → ℕ → Bool
-triggers p a size = if p.auto == 0 then false else (if nat_le p.auto (a.counted + size) then nat_lt a.triggered 64 else false)
+triggers p a size = if p.auto == 0 then false else (if nat_le p.auto (a.counted + size) then nat_lt a.triggered MOST_TRIGGERS else false)
 
 -- the heap with the words of a commit counted; the thread that reaches W owes at least a collection of generation 0
 abbrev pub counting : Program → NamedHeap → ℕ → ℕ → NamedHeap

@@ -1,15 +1,15 @@
 -- Fields in their usual spelling.
-use Rattle.std.proofs.Common.{◌≡◌, ℕ, ◌+◌, ◌-◌, ◌*◌, ◌≤◌, ◌<◌, suc, true, false, eqb, ltb, ◌||◌, List, [], ◌∷◌, ◌++◌, nat_lt, length, take, drop, get_or, Some, Ok, refl, sym, ap, ◌∙◌, subst, arith, inl, inr}
+use Rattle.std.proofs.Common.{◌≡◌, ℕ, ◌+◌, ◌-◌, ◌*◌, ◌≤◌, ◌<◌, suc, true, false, eqb, ltb, ◌||◌, List, [], ◌∷◌, ◌++◌, nat_lt, length, take, drop, get_or, Some, Ok, refl, sym, ap, ◌∙◌, subst, arith, append_assoc, inl, inr}
 use Rattle.std.specs.Char.{is_digit, digit_value}
 use Rattle.std.proofs.lemmas.Bool.{ne_eqb, or_cases, and_parts, eqb-true, ltb-true, lt-ltb}
-use Rattle.std.proofs.lemmas.List.{take_at, drop_at}
+use Rattle.std.proofs.lemmas.List.{take_at, drop_at, take-append-drop, length-take-le}
 use Rattle.std.specs.List.{list_all}
 use Rattle.std.proofs.lemmas.Str.{digit_value_digit}
 use Rattle.heap_terms.specs.declared.cells.Cell.{Cell}
 use Rattle.heap_terms.specs.declared.cells.Cell.TheVariants.{Stack, Exact, Shared}
 use Rattle.heap_terms.specs.Fields.{fields_of, is_blank, number_of, cell_number, cell_of, turns_of}
 use Rattle.script_text.specs.Commands.{Reads, a_cell}
-use Rattle.script_text.specs.Left.{ends_field, field_len, fields_left, Taken, IsSolidWord}
+use Rattle.script_text.specs.Left.{ends_field, field_len, fields_left, Taken, IsSolidWord, IsSpelled}
 use Rattle.script_text.proofs.Digits.{digit_yes}
 use Rattle.script_text.proofs.Lines.{lines-lf, SameLeft-blank, Taken-field, field_len-none, field_len-cons}
 
@@ -72,10 +72,22 @@ before_space (w ∷ ws) more h =
     subst (λ (field : List ℕ). Taken (w ∷ ws ++ 32 ∷ more) field (32 ∷ more)) (take_at (w ∷ ws) (32 ∷ more) (suc (length ws)) refl)
     (subst (λ (after : List ℕ). Taken (w ∷ ws ++ 32 ∷ more) (take (suc (length ws)) (w ∷ ws ++ 32 ∷ more)) after) (drop_at (w ∷ ws) (32 ∷ more) (suc (length ws)) refl) t)
 
--- what stands at the front is a word, and a space behind it
-pub word_taken : (rest word after : List ℕ) → IsSolidWord word → rest ≡ word ++ after → 1 ≤ length after → get_or after 0 0 ≡ 32 → Taken rest word after
-word_taken rest word [] solid e long space = absurd (omega arith)
-word_taken rest word (b ∷ more) solid e long space = rw e (rw space (before_space word more solid))
+-- what stands at the front is a word with its space, of so many bytes with it
+pub spelled_taken : (rest spelled after : List ℕ) (n : ℕ) → IsSpelled spelled → n ≡ length spelled → take (length spelled) rest ≡ spelled →
+    after ≡ drop (n - 1) rest → Taken rest (take (n - 1) spelled) after
+spelled_taken rest spelled after n s len same behind =
+    let k = n - 1 in
+    let word = take k spelled in
+    let more = drop (length spelled) rest in
+    let cut : length spelled - 1 ≡ k = omega (arith, len) in
+    let solid : IsSolidWord word = subst (λ (i : ℕ). IsSolidWord (take i spelled)) cut s.0 in
+    let space : drop k spelled ≡ 32 ∷ [] = ap (λ (i : ℕ). drop i spelled) (sym cut) ∙ s.1 in
+    let whole : spelled ≡ word ++ 32 ∷ [] = sym (take-append-drop k spelled) ∙ ap (λ (t : List ℕ). word ++ t) space in
+    let parts : rest ≡ word ++ 32 ∷ more =
+    sym (take-append-drop (length spelled) rest) ∙ ap (λ (t : List ℕ). t ++ more) (same ∙ whole) ∙ append_assoc word (32 ∷ []) more in
+    let count : length word ≡ k = length-take-le k spelled (omega (arith, len)) in
+    let back : after ≡ 32 ∷ more = behind ∙ ap (drop k) parts ∙ drop_at word (32 ∷ more) k count in
+    rw (parts, back) (before_space word more solid)
 
 -- ---- what the digits say
 

@@ -72,7 +72,7 @@ fn plain_number_of_cell(rest: &[u8]) -> Option<(u8, &[u8])>
 pub(crate) fn plain_cell(rest: &[u8]) -> Option<(Cell, &[u8])>
     ensures { IfSome result (λ f. Reads a_cell rest.now f.0 f.1.now) }
 {
-    if rest.len() < 2 || rest[0] != b' ' {
+    if rest.len() < 5 || rest[0] != b' ' {
         return None;
     }
     let kind = rest[1];

@@ -175,12 +175,19 @@ fn plain_front(name: Name, rest: &[u8]) -> Option<(Command, &[u8])>
     }
 }
 
+/// How many bytes the longest line of the usual spelling has, and more. Where so many are left, one
+/// test serves for most of the line's bytes; the last lines of a script are read as any other.
+const LONGEST_PLAIN: usize = 32;
+
 /// The command of a line in its usual spelling: the name at its very front, one space before each
 /// field, and the LF behind the last. With it come the bytes from that LF on.
 #[inline(always)]
 pub(crate) fn plain_command(rest: &[u8]) -> Option<(Command, &[u8])>
     ensures { IfSome result (λ f. SaysCommand rest.now f.0 f.1.now) }
 {
+    if rest.len() < LONGEST_PLAIN {
+        return None;
+    }
     let (name, fields) = plain_name(rest)?;
     let (command, after) = plain_front(name, fields)?;
     if after.is_empty() || after[0] != b'\n' {

@@ -1,10 +1,10 @@
 //! The words with which lines begin, and where such a line may stand. The name of a command is also
 //! read in its usual spelling, at the very front of the line and with one space after it.
 
-ghost use Rattle.std.specs.Prelude.{◌≡◌, false, MatchOption, IfSome};
+ghost use Rattle.std.specs.Prelude.{◌≡◌, ◌-◌, false, take, MatchOption, IfSome};
 ghost use Rattle.heap_terms.specs.Reading.{may_follow};
 ghost use Rattle.heap_terms.specs.Valid.{is_built};
-ghost use Rattle.script_text.specs.Left.{IsSolidWord, Taken};
+ghost use Rattle.script_text.specs.Left.{IsSpelled, Taken};
 ghost use Rattle.script_text.specs.Words.{text_of, text_of_name, place_of};
 
 /// The name of a command.
@@ -47,38 +47,34 @@ pub(crate) fn meaning_of(word: &[u8]) -> Option<Keyword>
     }
 }
 
-/// A word with a space after it, and the bytes from that space on.
+/// The bytes from a word's space on, where the word and that space stand at the front.
 #[inline(always)]
-fn plain_word<'a, const N: usize>(rest: &'a [u8], word: &[u8; N]) -> Option<&'a [u8]>
-    requires { IsSolidWord word.now }
-    ensures { IfSome result (λ after. Taken rest.now word.now after.now) }
+fn plain_word<'a, const N: usize>(rest: &'a [u8], spelled: &[u8; N]) -> Option<&'a [u8]>
+    requires { IsSpelled spelled.now }
+    ensures { IfSome result (λ after. Taken rest.now (take (N - 1) spelled.now) after.now) }
 {
-    let after = rest.strip_prefix(word.as_slice())?;
-    if after.is_empty() || after[0] != b' ' {
-        return None;
-    }
+    rest.strip_prefix(spelled.as_slice())?;
+    let (_, after) = rest.split_at(N - 1);
     Some(after)
 }
 
-/// The name of a command with a space after it, and the bytes from that space on.
+/// The name of a command with a space after it, and the bytes from that space on. No two names begin
+/// with one byte.
 #[inline(always)]
 pub(crate) fn plain_name(rest: &[u8]) -> Option<(Name, &[u8])>
     ensures { IfSome result (λ f. Taken rest.now (text_of_name f.0) f.1.now) }
 {
-    if let Some(after) = plain_word(rest, b"cons") {
-        return Some((Name::Cons, after));
+    if rest.is_empty() {
+        return None;
     }
-    if let Some(after) = plain_word(rest, b"get") {
-        return Some((Name::Get, after));
+    match rest[0] {
+        b'c' => Some((Name::Cons, plain_word(rest, b"cons ")?)),
+        b'g' => Some((Name::Get, plain_word(rest, b"get ")?)),
+        b'p' => Some((Name::Put, plain_word(rest, b"put ")?)),
+        b's' => Some((Name::Show, plain_word(rest, b"show ")?)),
+        b'f' => Some((Name::Fix, plain_word(rest, b"fix ")?)),
+        _ => None,
     }
-    if let Some(after) = plain_word(rest, b"put") {
-        return Some((Name::Put, after));
-    }
-    if let Some(after) = plain_word(rest, b"show") {
-        return Some((Name::Show, after));
-    }
-    let after = plain_word(rest, b"fix")?;
-    Some((Name::Fix, after))
 }
 
 /// After which line a line stands.
