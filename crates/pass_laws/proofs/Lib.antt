@@ -3,3 +3,5 @@ pub mod Sizes
 pub mod FreeRuns
 pub mod Landing
 pub mod Spreading
+pub mod Lookups
+pub mod AfterPages
