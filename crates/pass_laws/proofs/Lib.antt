@@ -5,3 +5,4 @@ pub mod Landing
 pub mod Spreading
 pub mod Lookups
 pub mod AfterPages
+pub mod AfterPass
