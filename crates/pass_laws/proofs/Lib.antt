@@ -6,3 +6,4 @@ pub mod Spreading
 pub mod Lookups
 pub mod AfterPages
 pub mod AfterPass
+pub mod AfterRoots

@@ -54,20 +54,21 @@ made_at f n i d past = elim (cases_lt i n) [
 pub made_length : {X : Type 0} (f : ℕ → X) (n : ℕ) → length (map f (range_with_len 0 n)) ≡ n
 made_length f n = length-map-range_with_len f 0 n
 
--- what some test finds in one of several lists joined
+-- what some test finds in one of two lists joined
+pub any_left : {Y : Type 0} (p : Y → Bool) (ys zs : List Y) → list_any p ys ≡ true → list_any p (ys ++ zs) ≡ true
+any_left p [] zs e = absurd (false≢true e)
+any_left p (y ∷ ys) zs e = elim (or_cases (p y) _ e) [
+  | inl here ↦ or_left (p y) _ here
+  | inr rest ↦ or_right (p y) _ (any_left p ys zs rest)
+]
+
+pub any_right : {Y : Type 0} (p : Y → Bool) (ys zs : List Y) → list_any p zs ≡ true → list_any p (ys ++ zs) ≡ true
+any_right p [] zs e = e
+any_right p (y ∷ ys) zs e = or_right (p y) _ (any_right p ys zs e)
+
+-- and in one of several
 pub any-flat_map : {X Y : Type 0} (p : Y → Bool) (f : X → List Y) (xs : List X) (i : ℕ) (d : X) → i < length xs → list_any p (f (get_or xs i d)) ≡ true →
     list_any p (flat_map f xs) ≡ true
 any-flat_map p f [] i d l e = absurd (omega (arith, l))
-any-flat_map p f (x ∷ xs) zero d l e = any-left p (f x) (flat_map f xs) e
-  where
-    any-left : {Y : Type 0} (p : Y → Bool) (ys zs : List Y) → list_any p ys ≡ true → list_any p (ys ++ zs) ≡ true
-    any-left p [] zs e = absurd (false≢true e)
-    any-left p (y ∷ ys) zs e = elim (or_cases (p y) _ e) [
-      | inl here ↦ or_left (p y) _ here
-      | inr rest ↦ or_right (p y) _ (any-left p ys zs rest)
-    ]
-any-flat_map p f (x ∷ xs) (suc i) d l e = any-right p (f x) (flat_map f xs) (any-flat_map p f xs i d (omega (arith, l)) e)
-  where
-    any-right : {Y : Type 0} (p : Y → Bool) (ys zs : List Y) → list_any p zs ≡ true → list_any p (ys ++ zs) ≡ true
-    any-right p [] zs e = e
-    any-right p (y ∷ ys) zs e = or_right (p y) _ (any-right p ys zs e)
+any-flat_map p f (x ∷ xs) zero d l e = any_left p (f x) (flat_map f xs) e
+any-flat_map p f (x ∷ xs) (suc i) d l e = any_right p (f x) (flat_map f xs) (any-flat_map p f xs i d (omega (arith, l)) e)
