@@ -1,8 +1,8 @@
 -- A pass keeps a heap well-formed: what cells hold is live, and stays.
-use Rattle.std.proofs.Common.{◌≡◌, ℕ, ◌+◌, ◌<◌, ◌≤◌, List, [], ◌∷◌, ◌++◌, length, get_or, map, replicate, Option, Some, None, Bool, true, false, ◌⊎◌, inl, inr, refl, sym, ◌∙◌, subst, ap, arith}
+use Rattle.std.proofs.Common.{◌≡◌, ℕ, ◌+◌, ◌<◌, ◌≤◌, List, [], ◌∷◌, ◌++◌, length, get_or, map, Option, Some, None, Bool, true, false, ◌⊎◌, inl, inr, refl, sym, ◌∙◌, subst, ap, arith}
 use Rattle.std.proofs.lemmas.Bool.{cases_lt, cases_Bool, false≢true, eq-eqb}
 use Rattle.std.proofs.lemmas.List.Folds.{list_any_at}
-use Rattle.std.proofs.lemmas.List.{get_or-map, length-map, get_or_past, get_or-replicate, length-replicate}
+use Rattle.std.proofs.lemmas.List.{get_or-map, length-map, get_or_past}
 use Rattle.std.specs.List.{list_any}
 use Rattle.std.specs.Prelude.{◌||◌, ◌==◌, if◌then◌else◌, IfSome, IsSome}
 use Rattle.heap_terms.specs.declared.cells.Value.{Value}
@@ -24,19 +24,12 @@ use Rattle.heap_terms.specs.Words.{word_of}
 use Rattle.pass_laws.proofs.AfterPages.{new_generation, spread, entry_is, pages_long, objects_long}
 use Rattle.pass_laws.proofs.AfterPass.{object_then, Remains, remaining, living_after, list_living_after, pass_sound}
 use Rattle.pass_laws.proofs.Landing.{IsTaken}
-use Rattle.pass_laws.proofs.Lookups.{any_left, any-flat_map}
+use Rattle.pass_laws.proofs.Lookups.{any_left, any-flat_map, all_zero}
 use Rattle.pass_laws.proofs.Spreading.{IsPlacing}
 
 -- no thread has an open page or run
 abbrev pub HasNoRegions : NamedHeap → Type 0
 HasNoRegions a = (t : ℕ) → ((ty : PageType) → open_page (thread_at a t) ty ≡ None) × ((thread_at a t).open_run ≡ None)
-
--- fixnums 0, and nothing past them
-all_zero : (n i : ℕ) → get_or (replicate n zero_value) i zero_value ≡ zero_value
-all_zero n i = elim (cases_lt i n) [
-  | inl l ↦ get_or-replicate n i zero_value zero_value l
-  | inr l ↦ get_or_past (replicate n zero_value) i zero_value (let same = length-replicate n zero_value in omega arith)
-]
 
 -- a name in a cell s is hit
 pub stack_hits : (a : NamedHeap) (t i x : ℕ) → IsSome (object_at a.objects x) → get_or (thread_at a t).stack i zero_value ≡ values.Ref x → is_hit a x ≡ true

@@ -7,3 +7,4 @@ pub mod Lookups
 pub mod AfterPages
 pub mod AfterPass
 pub mod AfterRoots
+pub mod LiveThere

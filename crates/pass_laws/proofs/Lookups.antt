@@ -1,11 +1,12 @@
 -- Looking into lists that a test picks from, or that a function makes of all numbers up to a length.
-use Rattle.std.proofs.Common.{◌≡◌, ℕ, zero, suc, ◌+◌, ◌<◌, ◌≤◌, List, [], ◌∷◌, ◌++◌, length, get_or, map, Option, Some, None, Bool, true, false, ◌⊎◌, inl, inr, refl, sym, ◌∙◌, subst, ap, arith}
+use Rattle.std.proofs.Common.{◌≡◌, ℕ, zero, suc, ◌+◌, ◌<◌, ◌≤◌, List, [], ◌∷◌, ◌++◌, length, get_or, map, replicate, Option, Some, None, Bool, true, false, ◌⊎◌, inl, inr, refl, sym, ◌∙◌, subst, ap, arith}
 use Rattle.std.proofs.lemmas.Bool.{cases_lt, cases_eq, cases_Bool, or_cases, or_left, or_right, and_parts, and_from, false≢true, eq-eqb, eqb-true}
 use Rattle.std.proofs.lemmas.List.Folds.{Any-from_list_any, list_any_at}
 use Rattle.std.proofs.lemmas.List.FromFn.{length-range_with_len, length-map-range_with_len, get_or-range_with_len, get_or-map-range_with_len}
-use Rattle.std.proofs.lemmas.List.{get_or_past, get_or_default}
+use Rattle.std.proofs.lemmas.List.{get_or_past, get_or_default, get_or-replicate, length-replicate}
 use Rattle.std.specs.List.{list_any, range_with_len}
 use Rattle.std.specs.Prelude.{All, AllPairs, filter, flat_map, ◌||◌, ◌==◌, if◌then◌else◌, ◌≢◌}
+use Rattle.heap_terms.specs.Heap.{zero_value}
 
 -- what some test finds in a list, at its place
 pub found_at : {X : Type 0} (p : X → Bool) (xs : List X) → list_any p xs ≡ true → (i : ℕ) × (i < length xs) × ((d : X) → p (get_or xs i d) ≡ true)
@@ -72,3 +73,10 @@ pub any-flat_map : {X Y : Type 0} (p : Y → Bool) (f : X → List Y) (xs : List
 any-flat_map p f [] i d l e = absurd (omega (arith, l))
 any-flat_map p f (x ∷ xs) zero d l e = any_left p (f x) (flat_map f xs) e
 any-flat_map p f (x ∷ xs) (suc i) d l e = any_right p (f x) (flat_map f xs) (any-flat_map p f xs i d (omega (arith, l)) e)
+
+-- fixnums 0, and nothing past them
+pub all_zero : (n i : ℕ) → get_or (replicate n zero_value) i zero_value ≡ zero_value
+all_zero n i = elim (cases_lt i n) [
+  | inl l ↦ get_or-replicate n i zero_value zero_value l
+  | inr l ↦ get_or_past (replicate n zero_value) i zero_value (let same = length-replicate n zero_value in omega arith)
+]
