@@ -8,3 +8,5 @@ pub mod AfterPages
 pub mod AfterPass
 pub mod AfterRoots
 pub mod LiveThere
+pub mod PinLists
+pub mod PassExists
