@@ -10,3 +10,4 @@ pub mod AfterRoots
 pub mod LiveThere
 pub mod PinLists
 pub mod PassExists
+pub mod Collecting
