@@ -6,6 +6,7 @@ pub mod SoundHeaps
 pub mod Allocating
 -- the lemmas themselves
 mod Lists
+mod Slots
 mod Programs
 mod Events
 mod WellFormed

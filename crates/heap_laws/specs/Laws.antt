@@ -4,10 +4,11 @@ use Rattle.heap_terms.specs.declared.events.Event.{Event}
 use Rattle.heap_terms.specs.declared.kinds.Kind.TheVariants as kinds
 use Rattle.heap_terms.specs.declared.pages.Next.TheVariants as nexts
 use Rattle.heap_terms.specs.declared.programs.Program.{Program}
+use Rattle.heap_terms.specs.declared.limits.TheConstants.{MOST_COMMANDS}
 use Rattle.heap_terms.specs.Complete.{IsComplete}
 use Rattle.heap_terms.specs.Heap.{NamedHeap, object_at, thread_at}
 use Rattle.heap_terms.specs.Histories.{IsNext, after, next, Lawful, LawfulFrom, replay, replay_from, thread_of, script_of}
-use Rattle.heap_laws.specs.Remaining.{all_left}
+use Rattle.heap_laws.specs.Remaining.{all_left, most_events}
 use Rattle.heap_terms.specs.Objects.{kind_of}
 use Rattle.heap_laws.specs.Order.{commands_of, events_of, EndsOnce}
 use Rattle.heap_laws.specs.Plain.{IsPlain}
@@ -27,7 +28,7 @@ HeapsAreWellFormed = (p : Program) (h : List Event) → IsValid p → Lawful p h
 -- of at most 20,000 objects, all of them conses until more kinds are built
 abbrev pub HeapsAreSmall : Type 0
 HeapsAreSmall = (p : Program) (h : List Event) → IsValid p → Lawful p h →
-    (length (replay p h).objects ≤ 20000)
+    (length (replay p h).objects ≤ MOST_COMMANDS)
     × ((name : ℕ) → IfSome (object_at (replay p h).objects name) (λ o. kind_of o.contents ≡ kinds.Cons))
 
 -- no thread collects until collections are built
@@ -39,7 +40,7 @@ abbrev pub HistoriesEnd : Type 0
 HistoriesEnd =
     ((p : Program) (h : List Event) (e : Event) → IsValid p → Lawful p h → IsNext p (replay p h) e →
     all_left p (after p (replay p h) e) + 1 ≤ all_left p (replay p h))
-    × ((p : Program) (h : List Event) → IsValid p → Lawful p h → length h ≤ 40016)
+    × ((p : Program) (h : List Event) → IsValid p → Lawful p h → length h ≤ most_events)
 
 -- a thread that has not ended has an event that may come next
 abbrev pub ThreadsGoOn : Type 0

@@ -3,3 +3,4 @@ pub mod HeapRuns
 pub mod Order
 pub mod Plain
 pub mod Laws
+pub mod WordLaws

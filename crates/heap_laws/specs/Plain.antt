@@ -6,6 +6,7 @@ use Rattle.heap_terms.specs.declared.cells.Value.{Value}
 use Rattle.heap_terms.specs.declared.cells.Value.TheVariants.{Fix, Nil, Unbound, Ref}
 use Rattle.heap_terms.specs.declared.events.Event.{Event}
 use Rattle.heap_terms.specs.declared.events.Event.TheVariants.{Did, Opened, Collected, Ended}
+use Rattle.heap_terms.specs.declared.limits.TheConstants.{MOST_COMMANDS, MOST_PAGES, MOST_THREADS, MOST_WORDS}
 use Rattle.heap_terms.specs.Valid.{IsFixnum, IsCommand}
 
 -- a value that a cell can hold, with one of at most 20,000 names
@@ -13,7 +14,7 @@ abbrev pub IsPlainValue : Value → Type 0
 IsPlainValue (Fix n) = IsFixnum n
 IsPlainValue Nil = Unit {0}
 IsPlainValue Unbound = ⊥
-IsPlainValue (Ref name) = name < 20000
+IsPlainValue (Ref name) = name < MOST_COMMANDS
 
 -- the answers of the commands that are built; an index is that of one of at most 1,024 pages' words
 abbrev pub IsPlainAnswer : Answer → Type 0
@@ -29,13 +30,13 @@ IsPlainAnswer (Count n) = ⊥
 IsPlainAnswer (Ran ids) = ⊥
 IsPlainAnswer (Page view) = ⊥
 IsPlainAnswer (Stat allocated cum num) = ⊥
-IsPlainAnswer (Placed name index) = (name < 20000) × (index < 524288)
+IsPlainAnswer (Placed name index) = (name < MOST_COMMANDS) × (index < MOST_WORDS)
 IsPlainAnswer (Refused why) = Unit {0}
 
 -- an event of one of at most 8 threads, with a command and an answer as above; until collections are built there
 -- is no event of one
 abbrev pub IsPlain : Event → Type 0
-IsPlain (Did t c answer) = (t ≤ 7) × IsCommand c × IsPlainAnswer answer
-IsPlain (Opened t ty first k) = (t ≤ 7) × (first < 1024) × (1 ≤ k) × (k ≤ 1024)
+IsPlain (Did t c answer) = (t < MOST_THREADS) × IsCommand c × IsPlainAnswer answer
+IsPlain (Opened t ty first k) = (t < MOST_THREADS) × (first < MOST_PAGES) × (1 ≤ k) × (k ≤ MOST_PAGES)
 IsPlain (Collected t last passes) = ⊥
-IsPlain (Ended t) = t ≤ 7
+IsPlain (Ended t) = t < MOST_THREADS

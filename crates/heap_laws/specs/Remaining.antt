@@ -4,6 +4,7 @@ use Rattle.std.specs.List.{range_with_len, sum_by}
 use Rattle.heap_terms.specs.declared.pages.Next.{Next}
 use Rattle.heap_terms.specs.declared.pages.Next.TheVariants as nexts
 use Rattle.heap_terms.specs.declared.programs.Program.{Program}
+use Rattle.heap_terms.specs.declared.limits.TheConstants.{MOST_COMMANDS, MOST_THREADS}
 use Rattle.heap_terms.specs.Heap.{NamedHeap, thread_at}
 use Rattle.heap_terms.specs.Histories.{script_of, next}
 
@@ -23,6 +24,11 @@ left p a t =
     if (thread_at a t).ended
     then 0
     else 1 + 2 * (length (script_of p t) - (thread_at a t).done) + opens_next (next p a t)
+
+-- how many events a history has at most: for each command itself and a region for it, and for each thread its end and
+-- a region that it opens for nothing
+abbrev pub most_events : ℕ
+most_events = 2 * MOST_COMMANDS + 2 * MOST_THREADS
 
 -- how many all threads have left
 abbrev pub all_left : Program → NamedHeap → ℕ

@@ -6,3 +6,4 @@
 
 pub mod heaps;
 pub mod histories;
+pub mod words;

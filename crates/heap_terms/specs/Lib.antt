@@ -2,6 +2,7 @@ pub mod Layout
 pub mod Objects
 pub mod Heap
 pub mod Cells
+pub mod Slots
 pub mod Words
 pub mod Valid
 pub mod Referents

@@ -8,6 +8,7 @@ use Rattle.heap_terms.specs.declared.faults.Why.TheVariants.{Word, Order, Missin
 use Rattle.heap_terms.specs.declared.faults.LimitKind.{LimitKind}
 use Rattle.heap_terms.specs.declared.faults.LimitKind.TheVariants as limits
 use Rattle.heap_terms.specs.declared.programs.Program.{Program}
+use Rattle.heap_terms.specs.declared.limits.TheConstants.{MOST_PAGES, MOST_THREADS, MOST_COMMANDS, MOST_GCS, MOST_TURNS}
 use Rattle.heap_terms.specs.Fields.{fields_of}
 use Rattle.heap_terms.specs.Grammar.{Statement, Version, HeapOf, AutoOf, NewThread, Does, Turns, EndOfScript, statement_of}
 use Rattle.heap_terms.specs.Valid.{is_built, is_gc}
@@ -78,17 +79,19 @@ unless_above limit n kind = if nat_lt limit n then Some kind else None
 -- the limit of a command: at most 20,000 in all threads, and 64 `gc` among them
 abbrev pub limit_of_command : List (List Command) → Bool → Option LimitKind
 limit_of_command threads gc =
-    if nat_lt 20000 (sum_by length threads + 1) then Some limits.Commands
-    else if gc then unless_above 64 (sum_by (count_by is_gc) threads + 1) limits.Gcs
+    if nat_lt MOST_COMMANDS (sum_by length threads + 1) then Some limits.Commands
+    else if gc then unless_above MOST_GCS (sum_by (count_by is_gc) threads + 1) limits.Gcs
     else None
 
 -- the limit that a line passes: 1,024 pages, 8 threads, 20,000 commands and 64 `gc`, 1,000,000 turns
 abbrev pub limit_passed : Program → Statement → Option LimitKind
-limit_passed p (HeapOf n) = unless_above 1024 n limits.Pages
-limit_passed p NewThread = unless_above 8 (length p.threads + 1) limits.Threads
+limit_passed p (HeapOf n) = unless_above MOST_PAGES n limits.Pages
+limit_passed p NewThread = unless_above MOST_THREADS (length p.threads + 1) limits.Threads
 limit_passed p (Does c) = limit_of_command p.threads (is_gc c)
-limit_passed p (Turns ts) = unless_above 1000000 (length p.schedule + length ts) limits.Schedule
-limit_passed p _ = None
+limit_passed p (Turns ts) = unless_above MOST_TURNS (length p.schedule + length ts) limits.Schedule
+limit_passed p Version = None
+limit_passed p (AutoOf n) = None
+limit_passed p EndOfScript = None
 
 -- the lines so far and one more, which has passed every check but the limits
 abbrev pub unless_passed : SoFar → Statement → Option LimitKind → Result SoFar Refused

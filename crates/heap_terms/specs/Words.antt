@@ -30,8 +30,8 @@ abbrev pub pair_words : List (Option Object) → ℕ → List (Value × Value) �
 pair_words objects b pairs =
     flat_map (λ pair. word_of objects pair.0 ∷ word_of objects pair.1 ∷ []) pairs ++ replicate (2 * (b - length pairs)) unbound_word
 
--- The words of an object from its first one on. A table's rehash flag and its last 2B words are kept by
--- look-up alone: here they stand as fixnum 0.
+-- The words of an object, from its first one on, as a region builds it: those of its slots. The words that a table's
+-- look-up keeps for itself begin as fixnum 0.
 abbrev pub spelling : List (Option Object) → Contents → List ℕ
 spelling objects (ConsOf a b) = word_of objects a ∷ word_of objects b ∷ []
 spelling objects (VectorOf vs) = with_header kinds.Vector (map (word_of objects) vs)

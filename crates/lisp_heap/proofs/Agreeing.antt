@@ -5,7 +5,7 @@ use Rattle.heap_terms.specs.declared.pages.Entry.{Entry}
 use Rattle.heap_terms.specs.Heap.{NamedHeap, Thread, thread_at, with_thread, ended_thread, fresh_thread}
 use Rattle.heap_laws.proofs.AtPlaces.{set_cases}
 use Rattle.lisp_heap.specs.Agreement.{Agrees, small_out, run_out}
-use Rattle.lisp_heap.specs.Parcels.{ParcelView}
+use Rattle.lisp_heap.specs.ParcelView.{ParcelView}
 use Rattle.lisp_heap.specs.State.{state_of}
 use Rattle.lisp_heap.specs.declared.states.ThreadState.{ThreadState}
 

@@ -5,7 +5,7 @@ use Rattle.heap_terms.specs.declared.pages.Entry.{Entry}
 use Rattle.heap_terms.specs.Heap.{NamedHeap, thread_at, entry_at, fill_of}
 use Rattle.heap_laws.proofs.Allocating.{HasSameEntries}
 use Rattle.lisp_heap.specs.Agreement.{Agrees, small_out, run_out, run_pages_of}
-use Rattle.lisp_heap.specs.Parcels.{ParcelView, place_of}
+use Rattle.lisp_heap.specs.ParcelView.{ParcelView, place_of}
 use Rattle.lisp_heap.specs.State.{state_of}
 use Rattle.lisp_heap.specs.declared.states.ThreadState.{ThreadState}
 

@@ -13,7 +13,7 @@ use Rattle.heap_terms.specs.Regions.{IsRun, HasNoRun, Wish, pages_needed, place_
 use Rattle.heap_laws.proofs.AtPlaces.{IsSome-value}
 use Rattle.heap_laws.proofs.Allocating.{has_page, place_small}
 use Rattle.lisp_heap.specs.Agreement.{Agrees, IsBuiltFor, Lends}
-use Rattle.lisp_heap.specs.Parcels.{ParcelView, RegionView, HasBuilt}
+use Rattle.lisp_heap.specs.ParcelView.{ParcelView, LeaseView, HasBuilt}
 use Rattle.lisp_heap.specs.Sound.{IsSound, view_of}
 use Rattle.lisp_heap.specs.View.{View, heap_of, next_of}
 use Rattle.lisp_heap.specs.declared.parcels.RegionPlace.{RegionPlace}
@@ -67,7 +67,7 @@ built_cons s w h e q lt built =
     let found = by_next s h q (next_of (view_of s) q.owner) refl here in
     (subst (λ (v : View). next_of v q.owner ≡ nexts.Build kinds.Cons 2 0) e found.0, found.1)
 
-some_region : (o : Option RegionView) (P : RegionView → Type 0) → IsSomeAnd o P → IsSome o
+some_region : (o : Option LeaseView) (P : LeaseView → Type 0) → IsSomeAnd o P → IsSome o
 some_region None P h = absurd h
 some_region (Some r) P h = refl
 
@@ -76,7 +76,7 @@ built_there q h = some_region q.cons (λ r. r.built ≡ Some (record { kind = ki
 
 -- and it goes where the region is filled to
 pub built_place : (s : Inside) (w : View) → IsSound s → view_of s ≡ w → (q : ParcelView) (index : ℕ) → q.owner < length w.program.threads →
-    next_of w q.owner ≡ nexts.Build kinds.Cons 2 0 → Agrees (heap_of w) q → ((r : RegionView) → q.cons ≡ Some r → index ≡ r.next) →
+    next_of w q.owner ≡ nexts.Build kinds.Cons 2 0 → Agrees (heap_of w) q → ((r : LeaseView) → q.cons ≡ Some r → index ≡ r.next) →
     index ≡ place_for (heap_of w) q.owner kinds.Cons 2
 built_place s w h e q index lt builds agrees said =
     let here = subst (λ (v : View). next_of v q.owner ≡ nexts.Build kinds.Cons 2 0) (sym e) builds in

@@ -16,7 +16,7 @@ use Rattle.heap_terms.specs.WellFormed.{IsWellFormed, IsOpenPage, IsOpenRunPage}
 use Rattle.heap_laws.proofs.SoundHeaps.{after-well_formed, open_page_used, open_run_used}
 use Rattle.heap_laws.proofs.Allocating.{run_length, run_entry, run_cases, HasSameEntries}
 use Rattle.lisp_heap.specs.Agreement.{Agrees, small_out}
-use Rattle.lisp_heap.specs.Parcels.{ParcelView, with_cons}
+use Rattle.lisp_heap.specs.ParcelView.{ParcelView, with_cons}
 use Rattle.lisp_heap.specs.Sound.{IsSound, parts_of}
 use Rattle.lisp_heap.specs.Standing.{Holds}
 use Rattle.lisp_heap.specs.State.{state_of, with_cons_open, fresh_state}
@@ -96,6 +96,7 @@ module _ (s : Inside) (h : IsSound s) (t : ℕ) (c : Command) (first : ℕ) (lt 
         words = record {
           long = h.holds.words.long ∙ ap (λ n. page_words * n) (sym long);
           spelled = h.holds.words.spelled;
+          kept = h.holds.words.kept;
           fillers = no_fillers s.program opened_heap s.space opened_well_formed;
         };
         pages = ap (λ (ps : List Entry). with_run ps first 1 types.Cons) h.holds.pages;

@@ -10,7 +10,7 @@ use Rattle.heap_terms.specs.Histories.{command_at, wish_at, wished_size}
 use Rattle.heap_terms.specs.Regions.{IsRun, IsLowestRun, pages_needed}
 use Rattle.lisp_heap.specs.declared.allocating.Lent.{Lent}
 use Rattle.lisp_heap.specs.declared.allocating.Lent.TheVariants as lents
-use Rattle.lisp_heap.specs.Parcels.{ParcelView, empty_parcel, place_of, with_cons, HasRoom, HasBuilt, IsMaking}
+use Rattle.lisp_heap.specs.ParcelView.{ParcelView, empty_parcel, place_of, with_cons, HasRoom, HasBuilt, IsMaking}
 use Rattle.lisp_heap.specs.View.{View, heap_of}
 use Rattle.lisp_heap.specs.declared.parcels.RegionPlace.{RegionPlace}
 

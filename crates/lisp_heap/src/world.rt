@@ -7,15 +7,17 @@ ghost use Rattle.heap_terms.specs.Regions.{wish_of, page_has_room};
 ghost use Rattle.heap_terms.specs.declared.pages.Next.{Next};
 ghost use Rattle.heap_terms.specs.Histories.{Lawful, command_at, next_for};
 ghost use Rattle.heap_terms.specs.Valid.{IsValid};
+ghost use Rattle.heap_terms.specs.WellFormed.{IsWellFormed};
 ghost use Rattle.lisp_heap.specs.Agreement.{Agrees, CanBuild};
 ghost use Rattle.lisp_heap.specs.Events.{Happens};
-ghost use Rattle.lisp_heap.specs.Parcels.{ParcelView};
+ghost use Rattle.lisp_heap.specs.ParcelView.{ParcelView};
+ghost use Rattle.lisp_heap.specs.Standing.{Holds};
 ghost use Rattle.lisp_heap.specs.State.{state_of};
 ghost use Rattle.lisp_heap.specs.Wishes.{Wishes};
 ghost use Rattle.lisp_heap.specs.View.{heap_of, next_of};
 
 use crate::cells::CellWords;
-use crate::outcome::{Outcome, apply};
+use crate::plan::{Plan, apply};
 use crate::states::{States, ThreadState, advance};
 use heap_terms::{Command, Entry, Event, Kind, Memory, Next, PAGE_WORDS, Program};
 use page_table::PageTable;
@@ -26,6 +28,8 @@ use word_space::{Prefilled, Space};
 /// A script's heap: its words, pages, cells and history.
 #[derive(Drop)]
 pub struct World {
+    /// Regions are opened with it.
+    pub(crate) alloc: Global,
     pub(crate) program: Program,
     pub(crate) space: Space,
     pub(crate) pages: PageTable,
@@ -65,11 +69,14 @@ impl World {
         &self.program
     }
 
-    /// What has happened so far: a lawful history of a valid program. It takes no memory.
+    /// What has happened so far: a lawful history of a valid program. What the World keeps stands
+    /// for the heap that it leaves. It takes no memory.
     pub fn history(&self) -> &[Event]
         ensures history { result.now ≡ self.now.history }
         ensures lawful { Lawful self.now.program self.now.history }
         ensures valid { IsValid self.now.program }
+        ensures stands { Holds (heap_of self.now) self.now.parts }
+        ensures well_formed { IsWellFormed self.now.program (heap_of self.now) }
     {
         self.history.as_slice()
     }
@@ -150,7 +157,7 @@ impl World {
         ensures err { OnErr result (self.new ≡ self.old) }
     {
         let command = self.command(t as usize).unwrap();
-        let Outcome { answer, change } = self.outcome(t as usize, command);
+        let Plan { answer, change } = self.plan(t as usize, command);
         self.history.push(Event::Did {
             thread: t,
             command,

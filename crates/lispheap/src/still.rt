@@ -12,7 +12,7 @@ use crate::faults::{Fault, put_text, say};
 use crate::journal::journal_of;
 use heap_io::{ReadFault, Sink, Source, read_all};
 use heap_terms::{Memory, Program};
-use replay_core::run_schedule;
+use replay_core::run_history;
 use script_text::{ScriptFault, parse};
 use std::alloc::Global;
 
@@ -178,6 +178,6 @@ fn run(alloc: Global, program: Program) -> Result<Vec<u8>, Memory>
     requires { IsValid program }
     ensures { IfOk result (λ text. IsJournalOf program text.items) }
 {
-    let replay = run_schedule(alloc, program)?;
-    journal_of(alloc, replay.world.history())
+    let world = run_history(alloc, program)?;
+    journal_of(alloc, world.history())
 }

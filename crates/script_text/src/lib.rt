@@ -1,22 +1,23 @@
 //! Scripts as text: reading one, with the exact line and the exact reason where it is refused.
 #![tactic(auto)]
 
+mod cells;
 mod commands;
 mod cursor;
 mod faults;
-mod plain;
+mod fields;
+mod numbers;
 mod reader;
 mod schedules;
-mod values;
+#[cfg(test)]
+mod tests;
+mod turns;
 mod words;
 
 ghost use Rattle.std.specs.Prelude.{◌<◌, ◌-◌, ◌^◌, length, IfOk};
 ghost use Rattle.heap_terms.specs.Reading.{read_script};
 ghost use Rattle.heap_terms.specs.Valid.{IsValid};
 ghost use Rattle.script_text.specs.Gives.{Gives};
-
-#[cfg(test)]
-mod tests;
 
 use crate::cursor::Cursor;
 use crate::reader::Reader;

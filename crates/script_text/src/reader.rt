@@ -110,6 +110,7 @@ impl Reader {
     }
 
     /// A command of the last thread.
+    #[inline(always)]
     #[tactic(auto, using(crate::proofs::Sums::counted))]
     fn command(&mut self, command: Command) -> Result<(), LineFault>
         ensures { IsJudged result self.new (within_limits self.old (Ok (Does command))) }
@@ -197,15 +198,29 @@ impl Reader {
         self.word(alloc, word, left)
     }
 
-    /// A line, from its first field on.
-    #[tactic(auto, unfolding(heap_terms::specs::Reading::judged, heap_terms::specs::Reading::judged_word))]
+    /// A line, from its first field on. The usual one is a command in its usual spelling.
+    #[inline(always)]
+    #[tactic(auto, using(crate::proofs::Plain::plain_judged))]
     pub(crate) fn line(&mut self, alloc: Global, left: &mut Cursor) -> Result<(), LineFault>
         ensures judged { IsJudged result self.new (judged self.old (fields_left left.old)) }
         ensures lines { OnOk result (lines_after left.new ≡ lines_after left.old) }
     {
-        if let Some(name) = left.plain_name() {
-            return self.placed(alloc, Keyword::Command(name), left);
+        if let Place::Thread = self.place {
+            if let Some(command) = left.plain_command() {
+                return self.command(command);
+            }
         }
+        self.any_line(alloc, left)
+    }
+
+    /// The same, whatever the line and its spelling.
+    #[cold]
+    #[inline(never)]
+    #[tactic(auto, unfolding(heap_terms::specs::Reading::judged, heap_terms::specs::Reading::judged_word))]
+    fn any_line(&mut self, alloc: Global, left: &mut Cursor) -> Result<(), LineFault>
+        ensures judged { IsJudged result self.new (judged self.old (fields_left left.old)) }
+        ensures lines { OnOk result (lines_after left.new ≡ lines_after left.old) }
+    {
         let Some(word) = left.next_field() else {
             return Ok(());
         };

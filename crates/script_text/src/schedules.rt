@@ -7,7 +7,7 @@ ghost use Rattle.script_text.specs.Left.{fields_left, lines_after};
 
 use crate::cursor::Cursor;
 use crate::faults::LineFault;
-use crate::values::{Turns, turns_in};
+use crate::turns::{Turns, turns_in};
 use heap_terms::{LimitKind, Why};
 use std::alloc::AllocFailed;
 

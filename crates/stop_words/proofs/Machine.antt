@@ -1,4 +1,5 @@
--- The words of the rule are those of the word machine: from the word that the rule has before a step, the machine's step makes the word that the rule has after it.
+-- The words of the rule are those of the word machine: from the word that the rule has before a step, the machine's
+-- step makes the word that the rule has after it.
 use Rattle.std.proofs.Common.{◌≡◌, ◌≢◌, ℕ, suc, Bool, true, false, refl}
 use Rattle.std.specs.Prelude.{if◌then◌else◌}
 use Rattle.heap_terms.specs.declared.steps.WordStep.TheVariants.{Resume, Enter, Leave, Park, Claim, Post, Release}

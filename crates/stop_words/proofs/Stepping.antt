@@ -1,4 +1,5 @@
--- The views tell the words: where the rule holds before and after a change of one view, the words have changed as the word machine says.
+-- The views tell the words: where the rule holds before and after a change of one view, the words have changed as the
+-- word machine says.
 use Rattle.std.proofs.Common.{◌≡◌, ◌≢◌, ◌⊎◌, ◌<◌, ◌≤◌, ℕ, zero, suc, Bool, true, false, List, [], ◌∷◌, Option, length, set, get_or, refl, sym, ap, ◌∙◌, subst, inl, inr, ⊎_elim, length-set, get_or-set_same, get_or-set_other, arith}
 use Rattle.std.proofs.lemmas.List.{ext_get_or}
 use Rattle.std.specs.Prelude.{if◌then◌else◌}

@@ -1,4 +1,5 @@
--- A step of a seat is a step of the word machine. Each law is of any parcels and any number of threads. This project's own.
+-- A step of a seat is a step of the word machine. Each law is of any parcels and any number of threads. This project's
+-- own.
 use Rattle.std.specs.Prelude.{◌≡◌, ◌≢◌, ◌<◌, ℕ, Option, true, false, List, ◌∷◌, slice_index, slice_set}
 use mathlib.Core.Option.{some}
 use lib.ListN.{get_elem?}

@@ -1,6 +1,6 @@
--- What holds between any two steps on the words. This project's own.
--- The turn is the number of the holder and one more, or 0. The word of a thread tells its place, and whether the holder has posted a
--- stop to it. A parcel lies in the slot of its thread, unless the thread runs or the holder has seen it parked: then a seat has the slot.
+-- What holds between any two steps on the words. This project's own. The turn is the number of the holder and one more,
+-- or 0. The word of a thread tells its place, and whether the holder has posted a stop to it. A parcel lies in the slot
+-- of its thread, unless the thread runs or the holder has seen it parked: then a seat has the slot.
 use Rattle.std.specs.Prelude.{◌≡◌, ◌≢◌, ◌<◌, ◌≤◌, ◌+◌, ℕ, suc, Bool, true, false, Option, Some, List, [], length, slice_index}
 use mathlib.Core.Option.{some, none}
 use lib.ListN.{get_elem?}

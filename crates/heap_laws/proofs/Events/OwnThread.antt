@@ -1,9 +1,11 @@
 -- What an event does to the threads: its own goes on by a command, or ends, and the others stay as they are.
-use Rattle.std.proofs.Common.{◌≡◌, ◌≢◌, ℕ, ◌+◌, ◌*◌, ◌<◌, ◌≤◌, List, [], ◌∷◌, ◌++◌, length, Some, None, Bool, true, false, inl, inr, refl, sym, ◌∙◌, subst, ap, arith, get_or, set}
+use Rattle.std.proofs.Common.{◌≡◌, ◌≢◌, ℕ, ◌+◌, ◌*◌, ◌<◌, ◌≤◌, List, [], ◌∷◌, ◌++◌, length, Option, Some, None, Bool, true, false, inl, inr, refl, sym, ◌∙◌, subst, ap, arith, get_or, set}
 use Rattle.std.proofs.lemmas.Bool.{cases_lt, false≢true}
 use Rattle.std.proofs.lemmas.List.{length-set, length_push}
 use Rattle.std.proofs.lemmas.Option.{slice_get-get_or}
 use Rattle.std.specs.Prelude.{slice_get}
+use Rattle.heap_terms.specs.declared.cells.Cell.{Cell}
+use Rattle.heap_terms.specs.declared.cells.Value.{Value}
 use Rattle.heap_terms.specs.declared.cells.Value.TheVariants as values
 use Rattle.heap_terms.specs.declared.commands.Command.{Command}
 use Rattle.heap_terms.specs.declared.events.Event.{Event}
@@ -12,12 +14,11 @@ use Rattle.heap_terms.specs.declared.kinds.Kind.{Kind}
 use Rattle.heap_terms.specs.declared.kinds.PageType.{PageType}
 use Rattle.heap_terms.specs.declared.pages.Entry.TheVariants.{Used}
 use Rattle.heap_terms.specs.declared.programs.Program.{Program}
-use Rattle.heap_terms.specs.Cells.{with_cell}
 use Rattle.heap_terms.specs.Heap.{NamedHeap, Thread, thread_at, ended_thread}
 use Rattle.heap_terms.specs.Histories.{IsNext, after, advance, command_at, script_of, thread_of}
 use Rattle.heap_terms.specs.Layout.{page_words, page_type_of, size_of}
 use Rattle.heap_laws.specs.Order.{is_end}
-use Rattle.heap_terms.specs.Regions.{Make, wish_of, is_small, has_room, committed, opened, destination_of}
+use Rattle.heap_terms.specs.Regions.{Make, wish_of, is_small, has_room, committed, opened, destination_of, with_destination}
 use Rattle.heap_terms.specs.Simple.{effect_of}
 use Rattle.heap_terms.specs.Valid.{IsValid}
 use Rattle.heap_terms.specs.WellFormed.{IsWellFormed}
@@ -26,7 +27,7 @@ use Rattle.heap_laws.proofs.Events.Causes.{by_events, alive_thread}
 use Rattle.heap_laws.proofs.WellFormed.RegionOpened.{opens_run, thread_with_run}
 use Rattle.heap_laws.proofs.Programs.BuiltCommands.{script_place}
 use Rattle.heap_laws.proofs.WellFormed.Replayed.{wish_small}
-use Rattle.heap_laws.proofs.Events.Tasks.{IsSameTask, same_task, with_cell-board, with_cell-objects, effect-board, advanced_thread, advance_others}
+use Rattle.heap_laws.proofs.Events.Tasks.{IsSameTask, IsSameBoard, same_task, same_board, with_cell-board, with_cell-objects, effect-board, advanced_thread, advance_others}
 use Rattle.heap_laws.proofs.WellFormed.Threads.{changed_thread, other_thread}
 
 -- a heap after a commit, but for the thread's place in its script
@@ -36,16 +37,24 @@ pub record IsBuilt (a b : NamedHeap) (t : ℕ) (c : Command) (kind : Kind) (n pa
   pub objects : b.objects ≡ a.objects ++ Some (new_object a t c (page_words * page + fill)) ∷ []
   pub pages : b.pages ≡ set a.pages page (Used (page_type_of kind) 0 (fill + size_of kind n) page 1)
 
+with_destination-board : (b : NamedHeap) (t : ℕ) (o : Option Cell) (v : Value) → IsSameBoard b (with_destination b t o v)
+with_destination-board b t None v = same_board b
+with_destination-board b t (Some d) v = with_cell-board b t d v
+
+with_destination-objects : (b : NamedHeap) (t : ℕ) (o : Option Cell) (v : Value) → (with_destination b t o v).objects ≡ b.objects
+with_destination-objects b t None v = refl
+with_destination-objects b t (Some d) v = with_cell-objects b t d v
+
 pub built_heap : (p : Program) (a : NamedHeap) (t : ℕ) (c : Command) (kind : Kind) (n : ℕ) → p.auto ≡ 0 → is_small (size_of kind n) ≡ true →
     (h : HasPage a t (page_type_of kind) (size_of kind n)) → IsBuilt a (committed p a t c kind n) t c kind n h.page h.fill
 built_heap p a t c kind n auto small h =
     let b = heap_with a (a.objects ++ Some (new_object a t c (page_words * h.page + h.fill)) ∷ []) a.threads
     (set a.pages h.page (Used (page_type_of kind) 0 (h.fill + size_of kind n) h.page 1)) in
-    let board = with_cell-board b t (destination_of c) (values.Ref (length a.objects)) in
-    let built : IsBuilt a (with_cell b t (destination_of c) (values.Ref (length a.objects))) t c kind n h.page h.fill = record {
+    let board = with_destination-board b t (destination_of c) (values.Ref (length a.objects)) in
+    let built : IsBuilt a (with_destination b t (destination_of c) (values.Ref (length a.objects))) t c kind n h.page h.fill = record {
       tasks = board.tasks;
       threads = board.threads;
-      objects = with_cell-objects b t (destination_of c) (values.Ref (length a.objects));
+      objects = with_destination-objects b t (destination_of c) (values.Ref (length a.objects));
       pages = board.pages;
     } in
     subst (λ (x : NamedHeap). IsBuilt a x t c kind n h.page h.fill) (sym (committed-small p a t c kind n auto small h)) built

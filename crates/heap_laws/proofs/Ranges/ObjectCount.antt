@@ -7,6 +7,7 @@ use Rattle.heap_terms.specs.declared.commands.Command.{Command}
 use Rattle.heap_terms.specs.declared.events.Event.{Event}
 use Rattle.heap_terms.specs.declared.events.Event.TheVariants.{Did, Opened, Collected, Ended}
 use Rattle.heap_terms.specs.declared.programs.Program.{Program}
+use Rattle.heap_terms.specs.declared.limits.TheConstants.{MOST_COMMANDS}
 use Rattle.heap_terms.specs.Heap.{NamedHeap, Thread, start, thread_at, fresh_thread, ended_thread}
 use Rattle.heap_terms.specs.Histories.{IsNext, after, Lawful, replay, script_of, thread_of}
 use Rattle.heap_laws.specs.Order.{is_end}
@@ -104,7 +105,7 @@ pub replay-counted : (p : Program) (h : List Event) → IsValid p → Lawful p h
 replay-counted p h valid lawful = kept_by_events p (λ a. IsCounted p a) (after-counted p valid) (start p) h (start-counted p) lawful
 
 -- no more objects than the commands of all scripts
-pub counted_few : (p : Program) (a : NamedHeap) → IsValid p → IsCounted p a → length a.objects ≤ 20000
+pub counted_few : (p : Program) (a : NamedHeap) → IsValid p → IsCounted p a → length a.objects ≤ MOST_COMMANDS
 counted_few p a valid h =
     let most = valid.commands_most in
     let few = h.few in
@@ -113,5 +114,5 @@ counted_few p a valid h =
     sum_le (λ t. (thread_at a t).done) (λ t. length (get_or p.threads t [])) 0 (length p.threads) (λ u low high. h.within u) in
     omega arith
 
-pub commits_few : (p : Program) (h : List Event) → IsValid p → Lawful p h → length (replay p h).objects ≤ 20000
+pub commits_few : (p : Program) (h : List Event) → IsValid p → Lawful p h → length (replay p h).objects ≤ MOST_COMMANDS
 commits_few p h valid lawful = counted_few p (replay p h) valid (replay-counted p h valid lawful)

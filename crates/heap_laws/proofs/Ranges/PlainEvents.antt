@@ -15,6 +15,7 @@ use Rattle.heap_terms.specs.declared.commands.Command.{Command}
 use Rattle.heap_terms.specs.declared.commands.Command.TheVariants.{Fix, NewCons, Get, Put, Show}
 use Rattle.heap_terms.specs.declared.events.Event.{Event}
 use Rattle.heap_terms.specs.declared.programs.Program.{Program}
+use Rattle.heap_terms.specs.declared.limits.TheConstants.{MOST_COMMANDS}
 use Rattle.heap_terms.specs.Cells.{cell_value}
 use Rattle.heap_terms.specs.Heap.{NamedHeap, start, thread_at, object_at, zero_value}
 use Rattle.heap_terms.specs.Histories.{IsNext, after, Lawful, LawfulFrom, thread_of}
@@ -42,7 +43,7 @@ name_below objects name h = elim (cases_lt name (length objects)) [
   | inr l ↦ (let none = get_or_past objects name None l in absurd (false≢true (rw none at h)))
 ]
 
-pub living_plain : (objects : List (Option Object)) (v : Value) → length objects ≤ 20000 → IsLiving objects v → IsPlainValue v
+pub living_plain : (objects : List (Option Object)) (v : Value) → length objects ≤ MOST_COMMANDS → IsLiving objects v → IsPlainValue v
 living_plain objects (values.Fix n) few h = h
 living_plain objects values.Nil few h = tt
 living_plain objects values.Unbound few h = h
@@ -57,7 +58,7 @@ refusing_plain (Some vs) i answer h = go (nat_lt i (length vs)) (answer (slice_i
     go true x h = h
     go false x h = tt
 
-pub answer_plain : (p : Program) (a : NamedHeap) (t : ℕ) (c : Command) (answer : Answer) → IsWellFormed p a → t < length p.threads → length a.objects ≤ 20000 →
+pub answer_plain : (p : Program) (a : NamedHeap) (t : ℕ) (c : Command) (answer : Answer) → IsWellFormed p a → t < length p.threads → length a.objects ≤ MOST_COMMANDS →
     IsBuilt c → answer_of a t c ≡ Some answer → IsPlainAnswer answer
 unfolding answer_of
 answer_plain p a t (Fix d n) answer w l few built e = let same : answers.Done ≡ answer = cc in subst (λ (x : Answer). IsPlainAnswer x) same tt
@@ -101,7 +102,7 @@ event_plain p a e valid h next =
           let built = built_heap p a t c kind n valid.auto page.0 at in
           let more = counted_few p _ valid later in
           let o = new_object a t c (page_words * at.page + at.fill) in
-          let name : length a.objects < 20000 = omega (arith, ap length built.objects, length_push a.objects (Some o)) in
+          let name : length a.objects < MOST_COMMANDS = omega (arith, ap length built.objects, length_push a.objects (Some o)) in
           let inside = used_inside a.pages at.page (page_type_of kind) 0 at.fill at.page 1 at.entry in
           let room = at.room in
           let least = size_least kind n in

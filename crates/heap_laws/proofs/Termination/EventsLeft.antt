@@ -18,7 +18,7 @@ use Rattle.heap_terms.specs.declared.programs.Program.{Program}
 use Rattle.heap_terms.specs.Heap.{NamedHeap, Thread, start, thread_at, entry_at, open_page, with_open_page}
 use Rattle.heap_terms.specs.Histories.{IsNext, after, command_at, script_of, thread_of, next, next_for, next_command, Lawful, LawfulFrom, replay_from}
 use Rattle.heap_terms.specs.Layout.{page_words, page_type_of, size_of}
-use Rattle.heap_laws.specs.Remaining.{left, all_left, opens_next}
+use Rattle.heap_laws.specs.Remaining.{left, all_left, opens_next, most_events}
 use Rattle.heap_terms.specs.Regions.{Wish, is_small, pages_needed, has_room, page_has_room, entry_has_room, entry_is_run, run_has_room, opened, with_run, IsRun}
 use Rattle.heap_terms.specs.Valid.{IsValid}
 use Rattle.heap_terms.specs.WellFormed.{IsWellFormed}
@@ -194,7 +194,7 @@ history_bounded p a (e ∷ es) valid w lawful =
     omega arith
 
 -- which is at most two for each thread and for each command
-pub all_left_most : (p : Program) (a : NamedHeap) → IsValid p → all_left p a ≤ 40016
+pub all_left_most : (p : Program) (a : NamedHeap) → IsValid p → all_left p a ≤ most_events
 all_left_most p a valid =
     let most = valid.commands_most in
     let threads = valid.threads_most in
@@ -206,7 +206,7 @@ all_left_most p a valid =
     let double : sum_by g range ≡ 2 * length p.threads + 2 * sum_by f range = sum_double f 0 (length p.threads) in
     omega arith
 
-pub history_short : (p : Program) (h : List Event) → IsValid p → Lawful p h → length h ≤ 40016
+pub history_short : (p : Program) (h : List Event) → IsValid p → Lawful p h → length h ≤ most_events
 history_short p h valid lawful =
     let bound = history_bounded p (start p) h valid (start-well_formed p) lawful in
     let most = all_left_most p (start p) valid in

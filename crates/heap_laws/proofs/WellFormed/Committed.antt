@@ -2,6 +2,8 @@
 use Rattle.std.proofs.Common.{◌≡◌, ℕ, ◌+◌, ◌*◌, ◌<◌, ◌≤◌, List, [], ◌∷◌, ◌++◌, length, Option, Some, None, true, refl, sym, ◌∙◌, subst, ap, set}
 use Rattle.std.proofs.lemmas.Bool.{eq-eqb, leb-true, false≢true}
 use Rattle.std.proofs.lemmas.List.{length-replicate, set-get_or, get_or_push}
+use Rattle.heap_terms.specs.declared.cells.Cell.{Cell}
+use Rattle.heap_terms.specs.declared.cells.Value.{Value}
 use Rattle.heap_terms.specs.declared.cells.Value.TheVariants as values
 use Rattle.heap_terms.specs.declared.commands.Command.{Command}
 use Rattle.heap_terms.specs.declared.commands.Command.TheVariants as commands
@@ -10,11 +12,11 @@ use Rattle.heap_terms.specs.declared.kinds.PageType.{PageType}
 use Rattle.heap_terms.specs.declared.pages.Entry.{Entry}
 use Rattle.heap_terms.specs.declared.pages.Entry.TheVariants.{Free, Used}
 use Rattle.heap_terms.specs.declared.programs.Program.{Program}
-use Rattle.heap_terms.specs.Cells.{cell_value, with_cell}
+use Rattle.heap_terms.specs.Cells.{cell_value}
 use Rattle.heap_terms.specs.Heap.{NamedHeap, Thread, entry_at, thread_at, open_page, fill_of, ended_thread, fresh_thread, zero_value}
 use Rattle.heap_terms.specs.Layout.{page_words, page_type_of, size_of}
 use Rattle.heap_terms.specs.Objects.{Object, kind_of, payload_of, words_of_object}
-use Rattle.heap_terms.specs.Regions.{Make, wish_of, is_small, entry_has_room, page_has_room, has_room, place_for, pages_after, run_used, counting, committed, destination_of, initial_contents}
+use Rattle.heap_terms.specs.Regions.{Make, wish_of, is_small, entry_has_room, page_has_room, has_room, place_for, pages_after, run_used, counting, committed, destination_of, with_destination, initial_contents}
 use Rattle.heap_terms.specs.WellFormed.{IsWellFormed, IsLiving, HoldsLiving, IsOpenPage}
 use Rattle.heap_laws.proofs.WellFormed.LivingValues.{cell_living, AreLiving-zeros, AreLiving-nil, IsLivingOrUnbound-living}
 use Rattle.heap_laws.proofs.WellFormed.ObjectAdded.{GoesOn, pages_with, pushed-kept}
@@ -115,13 +117,13 @@ new_object a t c place = record { generation = 0; place = place; contents = init
 -- thread's open page, which rises by its size, and the destination refers to it.
 pub committed-small : (p : Program) (a : NamedHeap) (t : ℕ) (c : Command) (kind : Kind) (n : ℕ) → p.auto ≡ 0 → is_small (size_of kind n) ≡ true →
     (h : HasPage a t (page_type_of kind) (size_of kind n)) →
-    committed p a t c kind n ≡ with_cell (heap_with a (a.objects ++ Some (new_object a t c (page_words * h.page + h.fill)) ∷ []) a.threads
+    committed p a t c kind n ≡ with_destination (heap_with a (a.objects ++ Some (new_object a t c (page_words * h.page + h.fill)) ∷ []) a.threads
     (set a.pages h.page (Used (page_type_of kind) 0 (h.fill + size_of kind n) h.page 1))) t (destination_of c) (values.Ref (length a.objects))
 unfolding committed
 committed-small p a t c kind n auto small h =
     let size = size_of kind n in
     let objects : ℕ → List (Option Object) = λ place. a.objects ++ Some (new_object a t c place) ∷ [] in
-    let cell : NamedHeap → NamedHeap = λ b. with_cell b t (destination_of c) (values.Ref (length a.objects)) in
+    let cell : NamedHeap → NamedHeap = λ b. with_destination b t (destination_of c) (values.Ref (length a.objects)) in
     counting-off p (cell (heap_with a (objects (place_for a t kind size)) (set a.threads t (run_used (thread_at a t) size)) (pages_after a t kind size))) t size auto
     ∙ ap (λ (place : ℕ). cell (heap_with a (objects place) (set a.threads t (run_used (thread_at a t) size)) (pages_after a t kind size))) (place_small a t kind size small h)
     ∙ ap (λ (threads : List Thread). cell (heap_with a (objects (page_words * h.page + h.fill)) threads (pages_after a t kind size))) (threads_small a t size small)
@@ -158,6 +160,12 @@ built-kept p a t c kind n seed w l wish small h =
     ∙ ap (λ (size : ℕ). set a.pages h.page (Used (page_type_of kind) 0 (h.fill + size) h.page 1)) size_is in
     subst (λ (pages : List Entry). IsWellFormed p (heap_with a (a.objects ++ Some o ∷ []) a.threads pages)) same kept
 
+-- a value that is put where a command wants it keeps a heap well-formed
+pub with_destination-kept : (p : Program) (b : NamedHeap) (t : ℕ) (o : Option Cell) (v : Value) → IsWellFormed p b → IsLiving b.objects v →
+    IsWellFormed p (with_destination b t o v)
+with_destination-kept p b t None v w living = w
+with_destination-kept p b t (Some d) v w living = with_cell-kept p b t d v w living
+
 -- the commit of a small object
 pub committed-kept : (p : Program) (a : NamedHeap) (t : ℕ) (c : Command) (kind : Kind) (n seed : ℕ) → IsWellFormed p a → p.auto ≡ 0 → t < length p.threads →
     wish_of c ≡ Make kind n seed → is_small (size_of kind n) ≡ true → has_room a t kind (size_of kind n) ≡ true → IsWellFormed p (committed p a t c kind n)
@@ -166,5 +174,5 @@ committed-kept p a t c kind n seed w auto l wish small room =
     let o = new_object a t c (page_words * h.page + h.fill) in
     let b = heap_with a (a.objects ++ Some o ∷ []) a.threads (set a.pages h.page (Used (page_type_of kind) 0 (h.fill + size_of kind n) h.page 1)) in
     let living : IsLiving b.objects (values.Ref (length a.objects)) = rw (get_or_push a.objects (Some o) None (length a.objects) refl) refl in
-    let kept = with_cell-kept p b t (destination_of c) (values.Ref (length a.objects)) (built-kept p a t c kind n seed w l wish small h) living in
+    let kept = with_destination-kept p b t (destination_of c) (values.Ref (length a.objects)) (built-kept p a t c kind n seed w l wish small h) living in
     subst (λ (x : NamedHeap). IsWellFormed p x) (sym (committed-small p a t c kind n auto small h)) kept

@@ -4,8 +4,9 @@ use Rattle.heap_terms.specs.declared.events.Event.TheVariants.{Did}
 use Rattle.heap_terms.specs.declared.commands.Command.{Command}
 use Rattle.heap_terms.specs.declared.pages.Next.TheVariants as nexts
 use Rattle.heap_terms.specs.Histories.{command_at, after}
-use Rattle.lisp_heap.specs.Outcome.{IsOutcome}
+use Rattle.lisp_heap.specs.Plan.{IsPlan}
 use Rattle.lisp_heap.specs.Standing.{Holds}
+use Rattle.lisp_heap.specs.Sound.{IsSound}
 use Rattle.lisp_heap.specs.View.{View, heap_of, next_of}
 use Rattle.lisp_heap.specs.declared.world.World.TheInside.{Inside}
 use Rattle.lisp_heap.proofs.Soundness.{heap, states_length}
@@ -26,8 +27,8 @@ apply-requires c =
     let at : command_at s.program (heap s) c.args.t ≡ Some c.unwrap-command.result =
     subst (λ (w : View). command_at w.program (heap_of w) c.args.t ≡ Some c.unwrap-command.result) (sym c.self.view_is) (sym c.command.ensures ∙ c.unwrap-command.ensures) in
     let simple = subst (λ (w : View). next_of w c.args.t ≡ nexts.Simple) (sym c.self.view_is) c.requires.simple in
-    let is = subst (λ (w : View). IsOutcome (heap_of w) c.args.t c.unwrap-command.result c.outcome-answer.result.answer c.outcome-answer.result.change) (sym c.self.view_is) c.outcome-answer.ensures in
-    record { cells = can_change s c.self.invariant c.args.t c.unwrap-command.result c.outcome-answer.result.answer c.outcome-answer.result.change lt at simple is }
+    let is = subst (λ (w : View). IsPlan (heap_of w) c.args.t c.unwrap-command.result c.plan-answer.result.answer c.plan-answer.result.change) (sym c.self.view_is) c.plan-answer.ensures in
+    record { cells = can_change s c.self.invariant c.args.t c.unwrap-command.result c.plan-answer.result.answer c.plan-answer.result.change lt at simple is }
 
 pub advance-requires-clause-thread : goal.advance-requires-clause-thread
 advance-requires-clause-thread c =
@@ -41,25 +42,29 @@ advance-requires-clause-room c =
     subst (λ (w : View). command_at w.program (heap_of w) c.args.t ≡ Some c.unwrap-command.result) (sym c.self.view_is) (sym c.command.ensures ∙ c.unwrap-command.ensures) in
     state_room s c.self.invariant c.args.t c.unwrap-command.result lt at
 
-pub invariant_of-self-2 : goal.invariant_of-self-2
-invariant_of-self-2 c =
+-- the fields after the call
+abbrev made : goal.After-advance → Inside
+made c = record {
+  alloc = c.self.inside.alloc;
+  program = c.self.inside.program;
+  space = c.apply.new.space;
+  pages = c.self.inside.pages;
+  labels = c.self.inside.labels;
+  cells = c.apply.new.cells;
+  states = c.advance.new.states;
+  commits = c.self.inside.commits;
+  history = c.push.new.self;
+}
+
+sound_made : (c : goal.After-advance) → IsSound (made c)
+sound_made c =
     let s = c.self.inside in
     let lt = thread_in s c.args.self.now c.self.view_is c.args.t c.requires.thread in
     let at : command_at s.program (heap s) c.args.t ≡ Some c.unwrap-command.result =
     subst (λ (w : View). command_at w.program (heap_of w) c.args.t ≡ Some c.unwrap-command.result) (sym c.self.view_is) (sym c.command.ensures ∙ c.unwrap-command.ensures) in
     let simple = subst (λ (w : View). next_of w c.args.t ≡ nexts.Simple) (sym c.self.view_is) c.requires.simple in
-    let is = subst (λ (w : View). IsOutcome (heap_of w) c.args.t c.unwrap-command.result c.outcome-answer.result.answer c.outcome-answer.result.change) (sym c.self.view_is) c.outcome-answer.ensures in
-    let e = Did c.args.t c.unwrap-command.result c.outcome-answer.result.answer in
-    let now : Inside = record {
-      program = s.program;
-      space = c.apply.new.space;
-      pages = s.pages;
-      labels = s.labels;
-      cells = c.apply.new.cells;
-      states = c.advance.new.states;
-      commits = s.commits;
-      history = c.push.new.self;
-    } in
+    let is = subst (λ (w : View). IsPlan (heap_of w) c.args.t c.unwrap-command.result c.plan-answer.result.answer c.plan-answer.result.change) (sym c.self.view_is) c.plan-answer.ensures in
+    let e = Did c.args.t c.unwrap-command.result c.plan-answer.result.answer in
     let held : Holds (after s.program (heap s) e) (record {
       words = c.apply.new.space;
       pages = s.pages;
@@ -69,9 +74,12 @@ invariant_of-self-2 c =
       commits = s.commits;
     }) =
     rw (c.apply.ensures.cells, c.apply.ensures.words, c.advance.ensures)
-    (did_holds s c.self.invariant c.args.t c.unwrap-command.result c.outcome-answer.result.answer c.outcome-answer.result.change lt at simple is) in
-    sound_after s now e c.self.invariant refl c.in_ok-push.ensures.items
-    (did_next s c.self.invariant c.args.t c.unwrap-command.result c.outcome-answer.result.answer c.outcome-answer.result.change lt at simple is) held
+    (did_holds s c.self.invariant c.args.t c.unwrap-command.result c.plan-answer.result.answer c.plan-answer.result.change lt at simple is) in
+    sound_after s (made c) e c.self.invariant refl c.in_ok-push.ensures.items
+    (did_next s c.self.invariant c.args.t c.unwrap-command.result c.plan-answer.result.answer c.plan-answer.result.change lt at simple is) held
+
+pub invariant_of-self-2 : goal.invariant_of-self-2
+invariant_of-self-2 c = sound_made c
 
 pub returns-clause-ok : goal.returns-clause-ok
 returns-clause-ok c =
@@ -80,20 +88,10 @@ returns-clause-ok c =
     let at : command_at s.program (heap s) c.args.t ≡ Some c.unwrap-command.result =
     subst (λ (w : View). command_at w.program (heap_of w) c.args.t ≡ Some c.unwrap-command.result) (sym c.self.view_is) (sym c.command.ensures ∙ c.unwrap-command.ensures) in
     let simple = subst (λ (w : View). next_of w c.args.t ≡ nexts.Simple) (sym c.self.view_is) c.requires.simple in
-    let is = subst (λ (w : View). IsOutcome (heap_of w) c.args.t c.unwrap-command.result c.outcome-answer.result.answer c.outcome-answer.result.change) (sym c.self.view_is) c.outcome-answer.ensures in
-    let e = Did c.args.t c.unwrap-command.result c.outcome-answer.result.answer in
-    let now : Inside = record {
-      program = s.program;
-      space = c.apply.new.space;
-      pages = s.pages;
-      labels = s.labels;
-      cells = c.apply.new.cells;
-      states = c.advance.new.states;
-      commits = s.commits;
-      history = c.push.new.self;
-    } in
-    happens_after s now c.args.self.now c.args.t e c.self.view_is refl c.in_ok-push.ensures.items refl
-    (did_next s c.self.invariant c.args.t c.unwrap-command.result c.outcome-answer.result.answer c.outcome-answer.result.change lt at simple is)
+    let is = subst (λ (w : View). IsPlan (heap_of w) c.args.t c.unwrap-command.result c.plan-answer.result.answer c.plan-answer.result.change) (sym c.self.view_is) c.plan-answer.ensures in
+    let e = Did c.args.t c.unwrap-command.result c.plan-answer.result.answer in
+    happens_after s (made c) c.args.self.now c.args.t e c.self.view_is refl c.in_ok-push.ensures.items refl
+    (did_next s c.self.invariant c.args.t c.unwrap-command.result c.plan-answer.result.answer c.plan-answer.result.change lt at simple is) (sound_made c)
 
 pub returns-clause-others : goal.returns-clause-others
 returns-clause-others c = λ q. (
@@ -102,17 +100,7 @@ returns-clause-others c = λ q. (
     let at : command_at s.program (heap s) c.args.t ≡ Some c.unwrap-command.result =
     subst (λ (w : View). command_at w.program (heap_of w) c.args.t ≡ Some c.unwrap-command.result) (sym c.self.view_is) (sym c.command.ensures ∙ c.unwrap-command.ensures) in
     let simple = subst (λ (w : View). next_of w c.args.t ≡ nexts.Simple) (sym c.self.view_is) c.requires.simple in
-    let is = subst (λ (w : View). IsOutcome (heap_of w) c.args.t c.unwrap-command.result c.outcome-answer.result.answer c.outcome-answer.result.change) (sym c.self.view_is) c.outcome-answer.ensures in
-    let e = Did c.args.t c.unwrap-command.result c.outcome-answer.result.answer in
-    let now : Inside = record {
-      program = s.program;
-      space = c.apply.new.space;
-      pages = s.pages;
-      labels = s.labels;
-      cells = c.apply.new.cells;
-      states = c.advance.new.states;
-      commits = s.commits;
-      history = c.push.new.self;
-    } in
-    agrees_after s now c.args.self.now e q q c.self.view_is refl c.in_ok-push.ensures.items
-    (did_agrees s c.self.invariant c.args.t c.unwrap-command.result c.outcome-answer.result.answer c.outcome-answer.result.change lt at simple is q))
+    let is = subst (λ (w : View). IsPlan (heap_of w) c.args.t c.unwrap-command.result c.plan-answer.result.answer c.plan-answer.result.change) (sym c.self.view_is) c.plan-answer.ensures in
+    let e = Did c.args.t c.unwrap-command.result c.plan-answer.result.answer in
+    agrees_after s (made c) c.args.self.now e q q c.self.view_is refl c.in_ok-push.ensures.items
+    (did_agrees s c.self.invariant c.args.t c.unwrap-command.result c.plan-answer.result.answer c.plan-answer.result.change lt at simple is q))

@@ -1,0 +1,15 @@
+-- No other command of a valid program allocates nothing.
+use Rattle.std.proofs.Common.{◌≡◌, subst, sym, Some}
+use Rattle.heap_terms.specs.declared.pages.Next.TheVariants as nexts
+use Rattle.heap_terms.specs.Histories.{command_at}
+use Rattle.lisp_heap.specs.Sound.{view_of}
+use Rattle.lisp_heap.specs.View.{View, heap_of, next_of}
+use Rattle.lisp_heap.proofs.Commands.{one_of_four}
+use Rattle.lisp_heap.proofs.world.World.plan.Goals as goal
+
+pub unreachable-requires : goal.unreachable-requires
+unreachable-requires c =
+    one_of_four c.self.inside.program (heap_of (view_of c.self.inside)) c.args.t c.args.command c.self.invariant.valid
+    (subst (λ (w : View). command_at w.program (heap_of w) c.args.t ≡ Some c.args.command) (sym c.self.view_is) c.requires.command)
+    (subst (λ (w : View). next_of w c.args.t ≡ nexts.Simple) (sym c.self.view_is) c.requires.simple)
+    c.in_default.not-Fix c.in_default.not-Get c.in_default.not-Put c.in_default.not-Show
