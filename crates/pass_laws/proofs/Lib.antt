@@ -3,3 +3,11 @@ pub mod Sizes
 pub mod FreeRuns
 pub mod Landing
 pub mod Spreading
+pub mod Lookups
+pub mod AfterPages
+pub mod AfterPass
+pub mod AfterRoots
+pub mod LiveThere
+pub mod PinLists
+pub mod PassExists
+pub mod Collecting

@@ -75,13 +75,13 @@ step a g set name =
     && (is_root a g name || list_any (λ m. set m && reaches_from set name (object_at a.objects m)) (range_with_len 0 (length a.objects))))
 
 -- a value that refers to a name is live exactly where the name is
-refers_live : (set : ℕ → Bool) (v : Value) → ((name : ℕ) → refers name v ≡ true → set name ≡ true) → is_live set v ≡ true
+pub refers_live : (set : ℕ → Bool) (v : Value) → ((name : ℕ) → refers name v ≡ true → set name ≡ true) → is_live set v ≡ true
 refers_live set (values.Fix n) h = refl
 refers_live set values.Nil h = refl
 refers_live set values.Unbound h = refl
 refers_live set (values.Ref x) h = h x (eq-eqb x x refl)
 
-live_refers : (set : ℕ → Bool) (v : Value) (name : ℕ) → is_live set v ≡ true → refers name v ≡ true → set name ≡ true
+pub live_refers : (set : ℕ → Bool) (v : Value) (name : ℕ) → is_live set v ≡ true → refers name v ≡ true → set name ≡ true
 live_refers set (values.Fix n) name h e = absurd (false≢true e)
 live_refers set values.Nil name h e = absurd (false≢true e)
 live_refers set values.Unbound name h e = absurd (false≢true e)
@@ -210,7 +210,7 @@ AllBelow a =
     × ((name : ℕ) → list_any (refers name) a.shared ≡ true → name < length a.objects)
     × ((m : ℕ) (o : Object) (set : ℕ → Bool) (name : ℕ) → object_at a.objects m ≡ Some o → reaches set name o.contents ≡ true → name < length a.objects)
 
-object_below : (objects : List (Option Object)) (name : ℕ) (o : Object) → object_at objects name ≡ Some o → name < length objects
+pub object_below : (objects : List (Option Object)) (name : ℕ) (o : Object) → object_at objects name ≡ Some o → name < length objects
 object_below objects name o e = elim (cases_lt name (length objects)) [
   | inl l ↦ l
   | inr l ↦ (let none : None ≡ Some o = rw (get_or_past objects name None l) at e in cc)
