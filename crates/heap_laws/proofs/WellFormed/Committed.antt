@@ -1,6 +1,6 @@
 -- The commit of a small object, in plain terms, and that it keeps a heap well-formed.
-use Rattle.std.proofs.Common.{◌≡◌, ℕ, ◌+◌, ◌*◌, ◌^◌, ◌<◌, ◌≤◌, List, [], ◌∷◌, ◌++◌, length, Option, Some, None, true, refl, sym, ◌∙◌, subst, ap, arith, set}
-use Rattle.std.proofs.lemmas.Bool.{leb-true, false≢true}
+use Rattle.std.proofs.Common.{◌≡◌, ℕ, ◌+◌, ◌*◌, ◌^◌, ◌<◌, ◌≤◌, List, [], ◌∷◌, ◌++◌, length, Option, Some, None, true, false, inl, inr, refl, sym, ◌∙◌, subst, ap, arith, set}
+use Rattle.std.proofs.lemmas.Bool.{cases_Bool, leb-true, false≢true}
 use Rattle.std.proofs.lemmas.List.{length-replicate, set-get_or, get_or_push}
 use Rattle.heap_terms.specs.declared.cells.Cell.{Cell}
 use Rattle.heap_terms.specs.declared.cells.Value.{Value}
@@ -16,11 +16,12 @@ use Rattle.heap_terms.specs.Cells.{cell_value}
 use Rattle.heap_terms.specs.Heap.{NamedHeap, Thread, entry_at, thread_at, open_page, fill_of, ended_thread, fresh_thread, zero_value}
 use Rattle.heap_terms.specs.Layout.{page_words, page_type_of, size_of}
 use Rattle.heap_terms.specs.Objects.{Object, kind_of, payload_of, words_of_object}
-use Rattle.heap_terms.specs.Regions.{Make, wish_of, is_small, entry_has_room, page_has_room, has_room, place_for, pages_after, run_used, counting, committed, destination_of, with_destination, initial_contents}
+use Rattle.heap_terms.specs.Regions.{Make, wish_of, is_small, pages_needed, run_has_room, large_page, with_large, entry_has_room, page_has_room, has_room, place_for, pages_after, run_used, counting, committed, destination_of, with_destination, initial_contents}
 use Rattle.heap_terms.specs.Living.{IsLiving, HoldsLiving, IsShaped}
 use Rattle.heap_terms.specs.Valid.{IsInRange}
 use Rattle.heap_terms.specs.WellFormed.{IsWellFormed, IsOpenPage}
 use Rattle.heap_laws.proofs.WellFormed.LivingValues.{cell_living, AreLiving-zeros, AreLiving-nil, AreBelow-all, AreBelow-nil, IsLivingOrUnbound-living}
+use Rattle.heap_laws.proofs.WellFormed.LargeAdded.{HasRun, has_run, GoesInto, without_run, heap_put, put-kept}
 use Rattle.heap_laws.proofs.WellFormed.Counting.{counting-off, counting-kept}
 use Rattle.heap_laws.proofs.WellFormed.ObjectAdded.{GoesOn, pages_with, pushed-kept}
 use Rattle.heap_laws.proofs.WellFormed.Threads.{with_cell-kept, open_page_used}
@@ -187,9 +188,9 @@ with_destination-kept p b t None v w living = w
 with_destination-kept p b t (Some d) v w living = with_cell-kept p b t d v w living
 
 -- the commit of a small object
-pub committed-kept : (p : Program) (a : NamedHeap) (t : ℕ) (c : Command) (kind : Kind) (n seed : ℕ) → IsWellFormed p a → t < length p.threads → IsInRange c →
+pub committed_small-kept : (p : Program) (a : NamedHeap) (t : ℕ) (c : Command) (kind : Kind) (n seed : ℕ) → IsWellFormed p a → t < length p.threads → IsInRange c →
     wish_of c ≡ Make kind n seed → is_small (size_of kind n) ≡ true → has_room a t kind (size_of kind n) ≡ true → IsWellFormed p (committed p a t c kind n)
-committed-kept p a t c kind n seed w l in_range wish small room =
+committed_small-kept p a t c kind n seed w l in_range wish small room =
     let h = has_page p a t kind (size_of kind n) w small room in
     let b = heap_built a t c kind n h in
     let o = new_object a t c (page_words * h.page + h.fill) in
@@ -197,3 +198,65 @@ committed-kept p a t c kind n seed w l in_range wish small room =
     let kept = with_destination-kept p b t (destination_of c) (values.Ref (length a.objects)) (built-kept p a t c kind n seed w l in_range wish small h) living in
     subst (λ (x : NamedHeap). IsWellFormed p x) (sym (committed-counting p a t c kind n small h))
     (counting-kept p (with_destination b t (destination_of c) (values.Ref (length a.objects))) t (size_of kind n) kept)
+
+-- a large object has room in its thread's open run
+pub large_run : (p : Program) (a : NamedHeap) (t : ℕ) (kind : Kind) (size : ℕ) → IsWellFormed p a → is_small size ≡ false → has_room a t kind size ≡ true →
+    HasRun a t (page_type_of kind) (pages_needed size)
+large_run p a t kind size w large room =
+    let in_run : run_has_room a.pages (thread_at a t).open_run (page_type_of kind) size ≡ true = rw large at room in
+    has_run p a t (page_type_of kind) size w in_run
+
+-- the heap after the commit of a large object, which uses the run up
+pub committed_large-counting : (p : Program) (a : NamedHeap) (t : ℕ) (c : Command) (kind : Kind) (n seed first : ℕ) → wish_of c ≡ Make kind n seed →
+    is_small (size_of kind n) ≡ false → (thread_at a t).open_run ≡ Some first →
+    committed p a t c kind n
+    ≡ counting p (with_destination (heap_put a t (new_object a t c (page_words * first)) first) t (destination_of c) (values.Ref (length a.objects))) t (size_of kind n)
+unfolding committed
+committed_large-counting p a t c kind n seed first wish large open_is =
+    let size = size_of kind n in
+    let o = new_object a t c (page_words * first) in
+    let cell : NamedHeap → NamedHeap = λ b. counting p (with_destination b t (destination_of c) (values.Ref (length a.objects))) t size in
+    let heap : ℕ → Thread → List Entry → NamedHeap = λ place th pages. cell (heap_with a (a.objects ++ Some (new_object a t c place) ∷ []) (set a.threads t th) pages) in
+    let size_is : size ≡ words_of_object o = rw (initial_kind a t c kind n seed wish, initial_payload a t c kind n seed wish) refl in
+    let at : large_page a t ≡ first = rw open_is refl in
+    let place_is : place_for a t kind size ≡ page_words * first = rw large (ap (λ (x : ℕ). page_words * x) at) in
+    let thread_is : run_used (thread_at a t) size ≡ without_run (thread_at a t) = rw large refl in
+    let pages_are : pages_after a t kind size ≡ with_large a.pages first (words_of_object o) =
+    pages_large a t kind size large ∙ ap (λ (x : ℕ). with_large a.pages x size) at ∙ ap (λ (x : ℕ). with_large a.pages first x) size_is in
+    ap (λ (x : ℕ). heap x (run_used (thread_at a t) size) (pages_after a t kind size)) place_is
+    ∙ ap (λ (x : Thread). heap (page_words * first) x (pages_after a t kind size)) thread_is
+    ∙ ap (λ (x : List Entry). heap (page_words * first) (without_run (thread_at a t)) x) pages_are
+  where
+    pages_large : (a : NamedHeap) (t : ℕ) (kind : Kind) (size : ℕ) → is_small size ≡ false → pages_after a t kind size ≡ with_large a.pages (large_page a t) size
+    pages_large a t kind size large = rw large refl
+
+pub committed_large-kept : (p : Program) (a : NamedHeap) (t : ℕ) (c : Command) (kind : Kind) (n seed : ℕ) → IsWellFormed p a → t < length p.threads → IsInRange c →
+    wish_of c ≡ Make kind n seed → is_small (size_of kind n) ≡ false → has_room a t kind (size_of kind n) ≡ true → IsWellFormed p (committed p a t c kind n)
+committed_large-kept p a t c kind n seed w l in_range wish large room =
+    let h = large_run p a t kind (size_of kind n) w large room in
+    let o = new_object a t c (page_words * h.first) in
+    let b = heap_put a t o h.first in
+    let kind_is = initial_kind a t c kind n seed wish in
+    let size_is : words_of_object o ≡ size_of kind n = rw (kind_is, initial_payload a t c kind n seed wish) refl in
+    let goes : GoesInto a.pages o h.first = record {
+      large = rw size_is large;
+      young = refl;
+      place = refl;
+      inside = rw size_is h.inside;
+      each = (let each : (i : ℕ) → i < pages_needed (size_of kind n) → entry_at a.pages (h.first + i) ≡ Used (page_type_of (kind_of o.contents)) 0 0 h.first (pages_needed (size_of kind n)) =
+          λ i l. h.each i l ∙ ap (λ (x : Kind). Used (page_type_of x) 0 0 h.first (pages_needed (size_of kind n))) (sym kind_is) in
+          rw size_is each);
+    } in
+    let living : IsLiving b.objects (values.Ref (length a.objects)) = rw (get_or_push a.objects (Some o) None (length a.objects) refl) refl in
+    let kept = with_destination-kept p b t (destination_of c) (values.Ref (length a.objects))
+    (put-kept p a t o h.first w goes h.open_is (initial_living p a t c w l) (initial_shape a t c in_range)) living in
+    subst (λ (x : NamedHeap). IsWellFormed p x) (sym (committed_large-counting p a t c kind n seed h.first wish large h.open_is))
+    (counting-kept p (with_destination b t (destination_of c) (values.Ref (length a.objects))) t (size_of kind n) kept)
+
+-- every commit
+pub committed-kept : (p : Program) (a : NamedHeap) (t : ℕ) (c : Command) (kind : Kind) (n seed : ℕ) → IsWellFormed p a → t < length p.threads → IsInRange c →
+    wish_of c ≡ Make kind n seed → has_room a t kind (size_of kind n) ≡ true → IsWellFormed p (committed p a t c kind n)
+committed-kept p a t c kind n seed w l in_range wish room = elim (cases_Bool (is_small (size_of kind n))) [
+  | inl small ↦ committed_small-kept p a t c kind n seed w l in_range wish small room
+  | inr large ↦ committed_large-kept p a t c kind n seed w l in_range wish large room
+]

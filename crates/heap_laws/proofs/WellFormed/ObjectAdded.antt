@@ -18,7 +18,7 @@ use Rattle.heap_terms.specs.Sound.{IsSound, IsObject, IsFinalizer}
 use Rattle.heap_terms.specs.WellFormed.{IsWellFormed, IsThread, IsOpenPage, IsOpenRun}
 use Rattle.heap_laws.proofs.Lists.Places.{set_cases, push_cases, IfSome-at}
 use Rattle.heap_laws.proofs.WellFormed.LivingValues.{AllStay, AreLiving-stays, HoldsLiving-stays, push_stays}
-use Rattle.heap_laws.proofs.WellFormed.PagesStay.{EntryStays-same, PagesStay, IsPlaced-stays, IsInRun-stays, size_even, size_least, needs_two, needs_enough}
+use Rattle.heap_laws.proofs.WellFormed.PagesStay.{EntryStays-same, PagesStay, IsPlaced-stays, StaysInRun-from, IsInRun-stays, size_even, size_least, needs_two, needs_enough}
 use Rattle.heap_laws.proofs.WellFormed.RegionOpened.{pages_thread}
 use Rattle.heap_laws.proofs.WellFormed.Threads.{HasCells, cells_of, thread_from}
 
@@ -134,12 +134,12 @@ entry_fill Free h = record { even = refl; most = omega arith }
 entry_fill (Used ty g fill first n) h = h.1
 
 -- an object is sound after others came and pages were filled
-pub object_stays : (old new : List (Option Object)) (pages pages' : List Entry) (o : Object) → AllStay old new → PagesStay pages pages' → IsObject old pages o → IsObject new pages' o
-object_stays old new pages pages' o stay pages_stay h = record {
+object_stays : (old new : List (Option Object)) (pages pages' : List Entry) (o : Object) → AllStay old new → IsPlaced pages' o → IsObject old pages o → IsObject new pages' o
+object_stays old new pages pages' o stay placed h = record {
   generation = h.generation;
   shape = h.shape;
   contents = HoldsLiving-stays old new stay o.contents h.contents;
-  placed = IsPlaced-stays pages pages' o pages_stay h.placed;
+  placed = placed;
 }
 
 -- and so are finalizers
@@ -200,18 +200,18 @@ pushed_apart objects o old new x y q r differ e f = elim (push_cases objects x (
     swapped q r (inl h) = inr h
     swapped q r (inr h) = inl h
 
--- a sound object of generation 0 is added, on pages that stay
-pub added-sound : (a : NamedHeap) (o : Object) (pages : List Entry) → IsSound a → PagesStay a.pages pages →
+-- a sound object of generation 0 is added, on pages on which the others lie as before
+pub added-sound : (a : NamedHeap) (o : Object) (pages : List Entry) → IsSound a → ((q : Object) → IsPlaced a.pages q → IsPlaced pages q) →
     ((page : ℕ) → IsEntry (entry_at pages page)) → ((page : ℕ) → IsInRun pages page (entry_at pages page)) →
     o.generation ≡ 0 → IsShaped o.contents → HoldsLiving a.objects o.contents → IsPlaced pages o →
     ((x : ℕ) (q : Object) → object_at a.objects x ≡ Some q → AreApart q o) →
     IsSound (record a { objects = a.objects ++ Some o ∷ []; pages = pages })
-added-sound a o pages w pages_stay entries runs young shape living placed apart =
+added-sound a o pages w others entries runs young shape living placed apart =
     let objects = a.objects ++ Some o ∷ [] in
     let stay : AllStay a.objects objects = push_stays a.objects o in
     record {
       objects = by_name a.objects o (λ q. IsObject objects pages q)
-          (λ name q e. object_stays a.objects objects a.pages pages q stay pages_stay (w.objects name q e))
+          (λ name q e. object_stays a.objects objects a.pages pages q stay (others q (w.objects name q e).placed) (w.objects name q e))
           (record { generation = rw young (omega arith); shape = shape; contents = HoldsLiving-stays a.objects objects stay o.contents living; placed = placed });
       apart = pushed_apart a.objects o w.apart apart;
       entries = entries;
@@ -233,7 +233,7 @@ pushed-kept p a o page fill w g living shape =
     let fills : (i : ℕ) → IsFill (fill_of (entry_at a.pages i)) = λ i. entry_fill (entry_at a.pages i) (w.sound.entries i) in
     let even : fill % 2 ≡ 0 = even_of (entry_at a.pages page) g.entry (fills page) in
     record {
-      sound = added-sound a o pages w.sound pages_stay
+      sound = added-sound a o pages w.sound (λ q placed. IsPlaced-stays a.pages pages q pages_stay placed)
           (λ i. elim (filled_entry a.pages page ty fill (words_of_object o) i g.entry) [
             | inl same ↦ rw same (w.sound.entries i)
             | inr here ↦ rw here.2 (
@@ -241,7 +241,8 @@ pushed-kept p a o page fill w g living shape =
                 let room = g.room in
                 (omega arith, record { even = omega arith; most = omega arith }))
           ])
-          (λ i. IsInRun-stays a.pages pages i pages_stay (entry_at a.pages i) (entry_at pages i) (pages_stay.each i) (w.sound.runs i)
+          (λ i. IsInRun-stays a.pages pages i pages_stay.lengths (λ j. StaysInRun-from (entry_at a.pages j) (entry_at pages j) (pages_stay.each j))
+          (entry_at a.pages i) (entry_at pages i) (StaysInRun-from (entry_at a.pages i) (entry_at pages i) (pages_stay.each i)) (w.sound.runs i)
           (λ free. elim (filled_entry a.pages page ty fill (words_of_object o) i g.entry) [
             | inl same ↦ rw (same, free) tt
             | inr here ↦ (let never : Free ≡ Used ty 0 fill page 1 = sym free ∙ here.1 in cc)

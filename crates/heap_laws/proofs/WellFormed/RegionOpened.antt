@@ -15,7 +15,7 @@ use Rattle.heap_terms.specs.OnPages.{IsEntry, IsInRun}
 use Rattle.heap_terms.specs.Sound.{IsSound}
 use Rattle.heap_terms.specs.WellFormed.{IsWellFormed, IsThread, IsOpenPage, IsOpenRun, IsOpenRunPage}
 use Rattle.heap_laws.proofs.Lists.Places.{IfSome-at}
-use Rattle.heap_laws.proofs.WellFormed.PagesStay.{EntryStays-same, PagesStay, IsPlaced-stays, IsInRun-stays, IsOpenPage-stays, IsOpenRun-stays}
+use Rattle.heap_laws.proofs.WellFormed.PagesStay.{EntryStays-same, PagesStay, IsPlaced-stays, StaysInRun-from, IsInRun-stays, IsOpenPage-stays, IsOpenRun-stays}
 use Rattle.heap_laws.proofs.WellFormed.Threads.{AreOwn, HasCells, cells_of, thread_from, with_thread-own, thread_cases, open_page_used, open_run_used}
 
 -- the entries while a run is open: those of the run, and the others
@@ -98,7 +98,8 @@ sound_pages a new s w entries taken = record {
   };
   apart = w.apart;
   entries = entries;
-  runs = λ page. IsInRun-stays a.pages new page s (entry_at a.pages page) (entry_at new page) (s.each page) (w.runs page) (taken page);
+  runs = λ page. IsInRun-stays a.pages new page s.lengths (λ i. StaysInRun-from (entry_at a.pages i) (entry_at new i) (s.each i))
+      (entry_at a.pages page) (entry_at new page) (StaysInRun-from (entry_at a.pages page) (entry_at new page) (s.each page)) (w.runs page) (taken page);
   finalizers = w.finalizers;
   queue = w.queue;
 }

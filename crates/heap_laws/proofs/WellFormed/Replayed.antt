@@ -22,6 +22,7 @@ use Rattle.heap_laws.proofs.WellFormed.FieldWritten.{written-kept, queued-kept}
 use Rattle.heap_laws.proofs.WellFormed.LivingValues.{AreBelow-nil}
 use Rattle.heap_laws.proofs.WellFormed.PagesStay.{needs_least}
 use Rattle.heap_laws.proofs.WellFormed.RegionOpened.{opened-kept}
+use Rattle.pass_laws.proofs.Collecting.{collected-well_formed}
 use Rattle.heap_laws.proofs.WellFormed.Threads.{start-well_formed, cells-kept, same_regions, with_cell-kept, advance-kept, ended-kept}
 
 -- a thread with other words and numbers
@@ -39,12 +40,6 @@ outcome-kept p a t c w few l alive in_range = by_outcome p a t (λ b. IsWellForm
     (queued-kept p a a.finalizers [] w w.sound.finalizers (AreBelow-nil (2 ^ 32) (omega arith)))
     c in_range
 
--- a valid program wishes for conses alone, which are small
-pub wish_small : (p : Program) (t i : ℕ) (c : Command) (kind : Kind) (n seed : ℕ) → IsValid p → slice_get (script_of p t) i ≡ Some c →
-    wish_of c ≡ Make kind n seed → is_small (size_of kind n) ≡ true
-wish_small p t i c kind n seed valid at wish =
-    let cons = only_cons_built p t i c kind n seed valid at wish in rw cons.0 refl
-
 -- each event keeps a heap of a valid program well-formed
 pub after-well_formed : (p : Program) → IsValid p → (a : NamedHeap) (e : Event) → IsNext p a e → IsWellFormed p a → IsWellFormed p (after p a e)
 after-well_formed p valid a e next w = by_events p a (λ e b. IsWellFormed p b)
@@ -54,9 +49,9 @@ after-well_formed p valid a e next w = by_events p a (λ e b. IsWellFormed p b)
     (λ t c answer d. advance-kept p a t w)
     (λ t c answer kind n seed d. advance-kept p (committed p a t c kind n) t
     (committed-kept p a t c kind n seed w (script_thread p t (thread_at a t).done c d.command) (script_command p t (thread_at a t).done c valid d.command).in_range
-    d.wish (wish_small p t (thread_at a t).done c kind n seed valid d.command d.wish) d.room))
+    d.wish d.room))
     (λ t ty first k d. opened-kept p a t ty first k w d.lowest.run (rw d.count_is (needs_least (size_of d.kind d.n))))
-    (λ t last passes d. ?)
+    (λ t last passes d. collected-well_formed p a t last passes w d.collection)
     (λ t d. ended-kept p a t w)
     e next
 
