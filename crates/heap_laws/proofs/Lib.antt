@@ -10,6 +10,7 @@ mod Slots
 mod Programs
 mod Events
 mod WellFormed
+mod Outcomes
 mod Termination
 mod Progress
 mod Order

@@ -1,7 +1,7 @@
 -- Allocation: which object a command makes, when a region has room for it, which run of pages is opened, and
 -- the commit of the object. That threads allocate from regions of their own, opened under a lock, is SBCL's;
 -- that a region is one page, opened on the lowest free run, is this project's own.
-use Rattle.std.specs.Prelude.{◌≡◌, ℕ, ◌+◌, ◌-◌, ◌*◌, ◌/◌, ◌<◌, ◌≤◌, List, [], ◌∷◌, ◌++◌, length, take, drop, replicate, Option, Some, None, Bool, true, false, if◌then◌else◌, nat_lt, nat_le, ◌==◌, slice_set, unwrap_or}
+use Rattle.std.specs.Prelude.{◌≡◌, ℕ, ◌+◌, ◌-◌, ◌*◌, ◌/◌, ◌<◌, ◌≤◌, List, [], ◌∷◌, ◌++◌, length, take, drop, replicate, Option, Some, None, Bool, true, false, if◌then◌else◌, nat_lt, nat_le, ◌==◌, ◌&&◌, slice_set, unwrap_or}
 use Rattle.heap_terms.specs.declared.cells.Cell.{Cell}
 use Rattle.heap_terms.specs.declared.cells.Value.{Value}
 use Rattle.heap_terms.specs.declared.cells.Value.TheVariants as values
@@ -10,6 +10,7 @@ use Rattle.heap_terms.specs.declared.commands.Command.TheVariants as commands
 use Rattle.heap_terms.specs.declared.kinds.Kind.{Kind}
 use Rattle.heap_terms.specs.declared.kinds.Kind.TheVariants as kinds
 use Rattle.heap_terms.specs.declared.kinds.PageType.{PageType}
+use Rattle.heap_terms.specs.declared.kinds.PageType.TheVariants as types
 use Rattle.heap_terms.specs.declared.pages.Entry.{Entry}
 use Rattle.heap_terms.specs.declared.pages.Entry.TheVariants as entries
 use Rattle.heap_terms.specs.declared.programs.Program.{Program}
@@ -160,15 +161,27 @@ abbrev pub page_has_room : List Entry → Option ℕ → ℕ → Bool
 page_has_room pages None size = false
 page_has_room pages (Some page) size = entry_has_room (entry_at pages page) size
 
--- whether a page begins a run of just k pages
-abbrev pub entry_is_run : Entry → ℕ → Bool
-entry_is_run entries.Free k = false
-entry_is_run (entries.Used ty g fill first pages) k = pages == k
+-- whether two page types are the same
+abbrev pub same_type : PageType → PageType → Bool
+same_type types.Cons types.Cons = true
+same_type types.Cons types.Boxed = false
+same_type types.Cons types.Unboxed = false
+same_type types.Boxed types.Cons = false
+same_type types.Boxed types.Boxed = true
+same_type types.Boxed types.Unboxed = false
+same_type types.Unboxed types.Cons = false
+same_type types.Unboxed types.Boxed = false
+same_type types.Unboxed types.Unboxed = true
 
--- whether a thread's open run was opened for a large object of that size
-abbrev pub run_has_room : List Entry → Option ℕ → ℕ → Bool
-run_has_room pages None size = false
-run_has_room pages (Some first) size = entry_is_run (entry_at pages first) (pages_needed size)
+-- whether a page begins a run of a type and of just k pages
+abbrev pub entry_is_run : Entry → PageType → ℕ → Bool
+entry_is_run entries.Free ty k = false
+entry_is_run (entries.Used other g fill first pages) ty k = same_type other ty && pages == k
+
+-- whether a thread's open run was opened for a large object of that type and size
+abbrev pub run_has_room : List Entry → Option ℕ → PageType → ℕ → Bool
+run_has_room pages None ty size = false
+run_has_room pages (Some first) ty size = entry_is_run (entry_at pages first) ty (pages_needed size)
 
 -- Whether thread t has room for an object of a kind and a size: a small one in its open page of that type, a
 -- large one in its open run, which was opened for it.
@@ -176,7 +189,7 @@ abbrev pub has_room : NamedHeap → ℕ → Kind → ℕ → Bool
 has_room a t kind size =
     if is_small size
     then page_has_room a.pages (open_page (thread_at a t) (page_type_of kind)) size
-    else run_has_room a.pages (thread_at a t).open_run size
+    else run_has_room a.pages (thread_at a t).open_run (page_type_of kind) size
 
 -- a page is free
 abbrev pub is_free : Entry → Bool

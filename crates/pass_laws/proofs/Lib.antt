@@ -1,0 +1,13 @@
+pub mod LiveNames
+pub mod Sizes
+pub mod FreeRuns
+pub mod Landing
+pub mod Spreading
+pub mod Lookups
+pub mod AfterPages
+pub mod AfterPass
+pub mod AfterRoots
+pub mod LiveThere
+pub mod PinLists
+pub mod PassExists
+pub mod Collecting
