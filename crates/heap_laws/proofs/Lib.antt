@@ -15,3 +15,4 @@ mod Progress
 mod Order
 mod Ranges
 mod Equal
+mod OneCommand
