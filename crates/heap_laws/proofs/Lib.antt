@@ -16,3 +16,4 @@ mod Progress
 mod Order
 mod Ranges
 mod Equal
+mod OneCommand

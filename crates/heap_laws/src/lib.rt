@@ -7,4 +7,5 @@
 pub mod equality;
 pub mod heaps;
 pub mod histories;
+pub mod reads_and_writes;
 pub mod words;
