@@ -22,10 +22,11 @@ use Rattle.heap_terms.specs.Placement.{Placement, scratch, placement}
 use Rattle.heap_terms.specs.Regions.{is_small, pages_needed}
 use Rattle.heap_terms.specs.Sound.{IsSound}
 use Rattle.heap_terms.specs.Survival.{surviving}
-use Rattle.pass_laws.proofs.Landing.{IsTaken, moved_object}
+use Rattle.pass_laws.specs.Spread.{settled}
+use Rattle.pass_laws.proofs.Landing.{IsTaken}
 use Rattle.pass_laws.proofs.Lookups.{found_at, in_filter, filter_in, made_at, made_length}
 use Rattle.pass_laws.proofs.Sizes.{needs_least}
-use Rattle.pass_laws.proofs.Spreading.{IsPlacing, IsSpread, IsMoveOf, settled, is_in, placement-keeps, moved_to-none}
+use Rattle.pass_laws.proofs.Spreading.{IsPlacing, IsMoveOf, is_in, placement-keeps, moved_to-none}
 
 -- what remains of an object has its kind and its size
 pub surviving-kind : (live : ℕ → Bool) (k : Contents) → kind_of (surviving live k) ≡ kind_of k

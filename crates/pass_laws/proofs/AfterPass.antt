@@ -30,11 +30,12 @@ use Rattle.heap_terms.specs.Regions.{is_small, pages_needed}
 use Rattle.heap_terms.specs.Sound.{IsSound, IsObject, IsFinalizer}
 use Rattle.heap_terms.specs.Survival.{keeps_pair, is_kept, surviving, registered, queued_of}
 use Rattle.heap_terms.specs.Layout.{size_of}
+use Rattle.pass_laws.specs.Spread.{settled}
 use Rattle.pass_laws.proofs.AfterPages.{IsSameSpace, IsRegenerated, IsPlaced-regenerated, surviving-kind, surviving-payload, moved_listed, new_generation, spread, object_is, entry_is, pages_long, freed_page, page_freed, used_after, not_freed}
 use Rattle.pass_laws.proofs.Landing.{IsTaken}
 use Rattle.pass_laws.proofs.Lookups.{found_at}
 use Rattle.pass_laws.proofs.Sizes.{words_least, small_needs}
-use Rattle.pass_laws.proofs.Spreading.{IsPlacing, settled, settled-words, is_in}
+use Rattle.pass_laws.proofs.Spreading.{IsPlacing, is_in}
 
 -- an object that remains, after the pass
 abbrev pub object_then : NamedHeap → PassRecord → ℕ → Object → Object

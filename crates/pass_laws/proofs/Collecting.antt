@@ -14,8 +14,9 @@ use Rattle.heap_terms.specs.Objects.{Object}
 use Rattle.heap_terms.specs.Passes.{IsPass, after_pass}
 use Rattle.heap_terms.specs.Policy.{promotes, is_raised, is_continued, raises, goes_on, target_of, cum_after, num_after}
 use Rattle.heap_terms.specs.WellFormed.{IsWellFormed, IsThread, IsSound}
+use Rattle.pass_laws.specs.NoRegions.{HasNoRegions, IsEmptyBelow}
 use Rattle.pass_laws.proofs.AfterPass.{Remains, remaining}
-use Rattle.pass_laws.proofs.AfterRoots.{HasNoRegions, pass_well_formed, same_threads}
+use Rattle.pass_laws.proofs.AfterRoots.{pass_well_formed}
 use Rattle.pass_laws.proofs.PassExists.{pass_exists}
 
 -- what a raise and a going on say of the generation, whether promotion is built or not
@@ -125,10 +126,6 @@ module _ (p : Program) where
 
 add_zero : (n : ℕ) → n + 0 ≡ n
 add_zero n = omega arith
-
--- no object is of a generation below g
-abbrev pub IsEmptyBelow : NamedHeap → ℕ → Type 0
-IsEmptyBelow a g = (x : ℕ) (o : Object) → object_at a.objects x ≡ Some o → g ≤ o.generation
 
 -- a pass that raises empties its generation
 raised-empty : (a : NamedHeap) (last g : ℕ) (r : PassRecord) → IsSound a → IsPassOf a last g r → raises a last g ≡ true → IsEmptyBelow a g → IsEmptyBelow (after_pass_of a last g r) (g + 1)

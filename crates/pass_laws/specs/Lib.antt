@@ -1,2 +1,6 @@
+pub mod Spread
+pub mod Reached
+pub mod NoRegions
+pub mod Laws
 pub mod Scripts
 pub mod Worked
