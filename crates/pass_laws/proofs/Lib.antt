@@ -11,3 +11,5 @@ pub mod LiveThere
 pub mod PinLists
 pub mod PassExists
 pub mod Collecting
+pub mod Reaching
+pub mod Determined

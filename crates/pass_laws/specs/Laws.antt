@@ -71,8 +71,7 @@ FieldsStay = (a : NamedHeap) (g h : ℕ) (r : PassRecord) (name : ℕ) (o q : Ob
 
 -- a weak pointer that is there points to what it pointed to while that is there, and else is broken
 abbrev pub WeakPointersBreak : Type 0
-WeakPointersBreak = (p : Program) (a : NamedHeap) (g h : ℕ) (r : PassRecord) (name : ℕ) (o q : Object) (v : Value) → IsWellFormed p a → IsPass a g h r →
-    object_at a.objects name ≡ Some o → o.contents ≡ WeakTo v → object_at (after_pass a r).objects name ≡ Some q →
+WeakPointersBreak = (a : NamedHeap) (g h : ℕ) (r : PassRecord) (name : ℕ) (o q : Object) (v : Value) → IsPass a g h r → object_at a.objects name ≡ Some o → o.contents ≡ WeakTo v → object_at (after_pass a r).objects name ≡ Some q →
     q.contents ≡ WeakTo (if is_there (after_pass a r) v then v else values.Unbound)
 
 -- Which pairs a table that is there keeps, by its weakness, from what is there after the pass: strong all of them, key those
@@ -85,8 +84,8 @@ pub record KeepsByWeakness (b : NamedHeap) (w : Weakness) (pair : Value × Value
   pub key_or_value : w ≡ weaknesses.KeyOrValue → is_there b pair.0 ≡ is_there b pair.1
 
 abbrev pub WeakTablesKeep : Type 0
-WeakTablesKeep = (p : Program) (a : NamedHeap) (g h : ℕ) (r : PassRecord) (name : ℕ) (o q : Object) (w : Weakness) (b : ℕ) (pairs : List (Value × Value)) →
-    IsWellFormed p a → IsPass a g h r → object_at a.objects name ≡ Some o → o.contents ≡ TableOf w b pairs → object_at (after_pass a r).objects name ≡ Some q →
+WeakTablesKeep = (a : NamedHeap) (g h : ℕ) (r : PassRecord) (name : ℕ) (o q : Object) (w : Weakness) (b : ℕ) (pairs : List (Value × Value)) →
+    IsPass a g h r → object_at a.objects name ≡ Some o → o.contents ≡ TableOf w b pairs → object_at (after_pass a r).objects name ≡ Some q →
     (q.contents ≡ TableOf w b (filter (λ pair. keeps_pair w (is_there (after_pass a r) pair.0) (is_there (after_pass a r) pair.1)) pairs))
     × ((i : ℕ) → KeepsByWeakness (after_pass a r) w (slice_index_or pairs i (zero_value, zero_value)))
 
