@@ -168,6 +168,13 @@ below-empty p a last g (q ∷ s ∷ front) r rest low w none empty are =
     let same : (g + 1) + length (s ∷ front) ≡ g + length (q ∷ s ∷ front) = omega arith in
     subst (λ (n : ℕ). IsEmptyBelow (after_passes a last g (q ∷ s ∷ front)) n × IsPassOf (after_passes a last g (q ∷ s ∷ front)) last n r) same b
 
+pub younger-empty : (p : Program) (a : NamedHeap) (last : ℕ) (front : List PassRecord) (r : PassRecord) (rest : List PassRecord) → IsWellFormed p a → HasNoRegions a →
+    ArePasses a last 0 (front ++ r ∷ rest) → IsEmptyBelow (after_passes a last 0 front) (length front) × IsPassOf (after_passes a last 0 front) last (length front) r
+younger-empty p a last front r rest w none are =
+    let b = below-empty p a last 0 front r rest (omega arith) w none (λ x o e. omega arith) are in
+    let same : 0 + length front ≡ length front = omega arith in
+    subst (λ (n : ℕ). IsEmptyBelow (after_passes a last 0 front) n × IsPassOf (after_passes a last 0 front) last n r) same b
+
 -- all threads after their regions were closed
 closed_at : (a : NamedHeap) (t : ℕ) → thread_at (closed a) t ≡ closed_thread (thread_at a t)
 closed_at a t = elim (cases_lt t (length a.threads)) [

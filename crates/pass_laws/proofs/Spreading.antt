@@ -370,3 +370,7 @@ unfolding placement
 placement-keeps a order sound once =
     placing-all a (no_placement a.pages) order sound.entries
     (placing-start a (λ x o e. (sound.objects x o e).placed) sound.apart sound.runs) (record { new = λ i l. refl; once = once })
+
+-- and so all objects at their new places are as they must
+pub placement-spread : (a : NamedHeap) (order : List ℕ) → IsSound a → AllPairs (λ (x y : ℕ). x ≢ y) order → IsSpread a.objects (placement a order).moves (placement a order).pages
+placement-spread a order sound once = (placement-keeps a order sound (λ i j l m. once i j 0 l m)).spread
