@@ -13,3 +13,4 @@ pub mod PassExists
 pub mod Collecting
 pub mod Reaching
 pub mod Determined
+pub mod Ranges
