@@ -1,7 +1,7 @@
 -- The numbers in the record of a pass are in their ranges.
 use Rattle.std.proofs.Common.{◌≡◌, ℕ, zero, suc, ◌+◌, ◌*◌, ◌^◌, ◌<◌, ◌≤◌, List, [], ◌∷◌, ◌++◌, length, get_or, map, Option, Some, None, Bool, true, false, ◌⊎◌, inl, inr, refl, sym, ◌∙◌, subst, ap, arith}
 use Rattle.std.proofs.lemmas.Bool.{cases_lt, cases_eq, cases_Bool, false≢true, eqb-true, eq-eqb, ne_eqb}
-use Rattle.std.proofs.lemmas.List.Elements.{All-nil, All-append, All-filter, All-map}
+use Rattle.std.proofs.lemmas.List.Elements.{All-nil, All-cons, All-append, All-filter, All-map}
 use Rattle.std.proofs.lemmas.List.FromFn.{length-range_with_len, get_or-range_with_len}
 use Rattle.std.proofs.lemmas.List.Sums.{count_by-le-length}
 use Rattle.std.proofs.lemmas.List.{get_or-map, get_or_default}
@@ -25,9 +25,13 @@ use Rattle.heap_terms.specs.Placement.{placement}
 use Rattle.heap_terms.specs.Sound.{IsSound, IsFinalizer}
 use Rattle.heap_terms.specs.Survival.{is_kept, culled_from, culls_in, culls_of, breaks_in, breaks_of, queued_of}
 use Rattle.heap_terms.specs.WellFormed.{IsWellFormed}
+use Rattle.heap_terms.specs.Collections.{closed, after_pass_of, ArePasses, IsCollection}
+use Rattle.heap_terms.specs.Policy.{raises, target_of}
+use Rattle.pass_laws.specs.NoRegions.{HasNoRegions}
 use Rattle.pass_laws.specs.PlainRecords.{IsName, IsIndex, IsPageNumber, IsNewIndex, IsSide, IsPlainRecord}
 use Rattle.pass_laws.specs.Spread.{settled}
-use Rattle.pass_laws.proofs.AfterPages.{spread}
+use Rattle.pass_laws.proofs.AfterPages.{spread, objects_long}
+use Rattle.pass_laws.proofs.Collecting.{goes_on-low, target-most, pass_of-well_formed, closed_none, closed-well_formed}
 use Rattle.pass_laws.proofs.LiveNames.{object_below}
 use Rattle.pass_laws.proofs.Sizes.{words_least}
 use Rattle.pass_laws.proofs.Spreading.{IsPlacing, IsMoveOf}
@@ -150,3 +154,23 @@ module _ (p : Program) (a : NamedHeap) (g h : ℕ) (r : PassRecord) (w : IsWellF
     where
       few_names : {n : ℕ} → n ≤ length (names a) → n < 2 ^ 32
       few_names l = (let long = length-range_with_len 0 (length a.objects) in omega arith)
+
+-- the records of a collection
+passes_plain : (p : Program) (a : NamedHeap) (last g : ℕ) (records : List PassRecord) → g ≤ 5 → IsWellFormed p a → HasNoRegions a → p.pages ≤ 1024 → length a.objects ≤ 20000 →
+    ArePasses a last g records → All IsPlainRecord records
+passes_plain p a last g [] low w none pages few are = absurd are
+passes_plain p a last g (r ∷ []) low w none pages few are =
+    let target = target-most a last g low in
+    All-cons IsPlainRecord r [] (record_plain p a g (target_of g (raises a last g)) r w few pages are.0 low (omega arith)) (All-nil IsPlainRecord)
+passes_plain p a last g (r ∷ s ∷ rest) low w none pages few are =
+    let target = target-most a last g low in
+    let next = pass_of-well_formed p a last g r low w none are.0 in
+    let more = goes_on-low (after_pass_of a last g r) last g (raises a last g) are.1 in
+    let long : length (after_pass_of a last g r).objects ≡ length a.objects = objects_long a g (target_of g (raises a last g)) r w.sound are.0 in
+    All-cons IsPlainRecord r (s ∷ rest) (record_plain p a g (target_of g (raises a last g)) r w few pages are.0 low (omega arith))
+    (passes_plain p (after_pass_of a last g r) last (g + 1) (s ∷ rest) (omega arith) next.0 next.1 pages (omega arith) are.2)
+
+pub collection_plain : (p : Program) (a : NamedHeap) (last : ℕ) (records : List PassRecord) → IsWellFormed p a → p.pages ≤ 1024 → length a.objects ≤ 20000 →
+    IsCollection a last records → All IsPlainRecord records
+collection_plain p a last records w pages few h =
+    passes_plain p (closed a) last 0 records (omega arith) (closed-well_formed p a w) (closed_none a) pages few h.passes

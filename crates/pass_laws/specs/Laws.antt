@@ -1,21 +1,25 @@
 -- Laws of passes and collections, each for every heap: what a reader may rely on beside the definitions themselves.
-use Rattle.std.specs.Prelude.{◌≡◌, ◌≢◌, ℕ, ◌+◌, ◌<◌, ◌≤◌, List, [], ◌∷◌, ◌++◌, length, map, filter, AllPairs, Option, Some, None, Bool, true, false, if◌then◌else◌, slice_index_or}
+use Rattle.std.specs.Prelude.{◌≡◌, ◌≢◌, ℕ, ◌+◌, ◌<◌, ◌≤◌, List, [], ◌∷◌, ◌++◌, length, map, filter, All, AllPairs, Option, Some, None, Bool, true, false, if◌then◌else◌, slice_index_or}
 use Rattle.heap_terms.specs.declared.cells.Value.{Value}
 use Rattle.heap_terms.specs.declared.cells.Value.TheVariants as values
 use Rattle.heap_terms.specs.declared.events.PassRecord.{PassRecord}
 use Rattle.heap_terms.specs.declared.kinds.Weakness.{Weakness}
 use Rattle.heap_terms.specs.declared.kinds.Weakness.TheVariants as weaknesses
+use Rattle.heap_terms.specs.declared.limits.TheConstants.{MOST_COMMANDS, MOST_PAGES}
+use Rattle.heap_terms.specs.declared.pages.Entry.{Entry}
 use Rattle.heap_terms.specs.declared.programs.Program.{Program}
 use Rattle.heap_terms.specs.Collections.{IsPassOf, ArePasses, after_passes, IsCollection, collected}
 use Rattle.heap_terms.specs.Heap.{NamedHeap, object_at, thread_at, zero_value}
 use Rattle.heap_terms.specs.Live.{IsClosed, AreLiveNames}
 use Rattle.heap_terms.specs.Objects.{Object, kind_of, ConsOf, VectorOf, InstanceOf, ClosureOf, WordsOf, WeakTo, TableOf, fields_of}
 use Rattle.heap_terms.specs.Passes.{IsPass, after_pass, order_of}
-use Rattle.heap_terms.specs.Placement.{placement}
+use Rattle.heap_terms.specs.Placement.{placement, lowest_run}
+use Rattle.heap_terms.specs.Regions.{IsLowestRun, HasNoRun}
 use Rattle.heap_terms.specs.Roots.{is_pinned}
 use Rattle.heap_terms.specs.Survival.{keeps_pair}
 use Rattle.heap_terms.specs.WellFormed.{IsWellFormed, IsSound}
 use Rattle.pass_laws.specs.NoRegions.{HasNoRegions, IsEmptyBelow}
+use Rattle.pass_laws.specs.PlainRecords.{IsPlainRecord}
 use Rattle.pass_laws.specs.Reached.{IsReached, is_there}
 use Rattle.pass_laws.specs.Spread.{IsSpread}
 
@@ -30,6 +34,11 @@ LiveNamesAreOne = (a : NamedHeap) (g : ℕ) (live other : ℕ → Bool) → AreL
 abbrev pub PlacementsKeepLayout : Type 0
 PlacementsKeepLayout = (a : NamedHeap) (order : List ℕ) → IsSound a → AllPairs (λ (x y : ℕ). x ≢ y) order →
     IsSpread a.objects (placement a order).moves (placement a order).pages
+
+-- the run that a placement takes is the lowest that is long enough, and where it finds none there is none
+abbrev pub RunsAreLowest : Type 0
+RunsAreLowest = (pages : List Entry) (k : ℕ) → 1 ≤ k →
+    ((first : ℕ) → lowest_run pages k ≡ Some first → IsLowestRun pages first k) × (lowest_run pages k ≡ None → HasNoRun pages k)
 
 -- a pass leaves a sound heap
 abbrev pub PassesKeepSound : Type 0
@@ -104,6 +113,11 @@ YoungerAreEmpty = (p : Program) (a : NamedHeap) (last : ℕ) (front : List PassR
 abbrev pub CollectionsExist : Type 0
 CollectionsExist = (p : Program) (a : NamedHeap) (last : ℕ) → IsWellFormed p a → ((t : ℕ) → (thread_at a t).inhibits ≡ 0) →
     (records : List PassRecord) × IsCollection a last records
+
+-- and in a heap of at most so many pages and objects as a program can have, its records have the numbers of a journal
+abbrev pub RecordsArePlain : Type 0
+RecordsArePlain = (p : Program) (a : NamedHeap) (last : ℕ) (records : List PassRecord) → IsWellFormed p a → p.pages ≤ MOST_PAGES →
+    length a.objects ≤ MOST_COMMANDS → IsCollection a last records → All IsPlainRecord records
 
 -- and given the orders of its passes there is only one
 abbrev pub CollectionsAreDetermined : Type 0

@@ -1,6 +1,6 @@
 //! Laws of a whole collection.
 
-ghost use Rattle.pass_laws.specs.Laws.{CollectionsKeepWellFormed, YoungerAreEmpty, CollectionsExist, CollectionsAreDetermined};
+ghost use Rattle.pass_laws.specs.Laws.{CollectionsKeepWellFormed, YoungerAreEmpty, CollectionsExist, RecordsArePlain, CollectionsAreDetermined};
 
 /// A collection leaves a well-formed heap.
 pub fn collections_keep_well_formed()
@@ -15,6 +15,11 @@ pub fn younger_are_empty()
 /// Wherever no thread inhibits, a collection up to every generation exists.
 pub fn collections_exist()
     ensures { CollectionsExist }
+{}
+
+/// The numbers in its records are in the ranges that a journal has for them.
+pub fn records_are_plain()
+    ensures { RecordsArePlain }
 {}
 
 /// The orders of the names that its passes take determine all that its records tell.

@@ -1,6 +1,6 @@
 //! Laws of one pass.
 
-ghost use Rattle.pass_laws.specs.Laws.{LiveNamesExist, LiveNamesAreOne, PlacementsKeepLayout, PassesKeepSound, PassesKeepWellFormed, PassesExist, PassesAreDetermined, PinnedStay, ReachedStay, UnreachedGo, FieldsStay, WeakPointersBreak, WeakTablesKeep};
+ghost use Rattle.pass_laws.specs.Laws.{LiveNamesExist, LiveNamesAreOne, PlacementsKeepLayout, RunsAreLowest, PassesKeepSound, PassesKeepWellFormed, PassesExist, PassesAreDetermined, PinnedStay, ReachedStay, UnreachedGo, FieldsStay, WeakPointersBreak, WeakTablesKeep};
 
 /// In every well-formed heap there is a least closed set of names.
 pub fn live_names_exist()
@@ -16,6 +16,11 @@ pub fn live_names_are_one()
 /// they must, and no two of them share a word.
 pub fn placements_keep_layout()
     ensures { PlacementsKeepLayout }
+{}
+
+/// The run of free pages that a placement takes is the lowest that is long enough.
+pub fn runs_are_lowest()
+    ensures { RunsAreLowest }
 {}
 
 /// A pass leaves a sound heap: values refer to objects that are there, and objects lie apart on
