@@ -69,7 +69,7 @@ impl World {
         ensures agrees { OnOk result ((q : ParcelView) → Agrees (heap_of self.old) q → Agrees (heap_of self.new) q) }
         ensures err { OnErr result (self.new ≡ self.old) }
     {
-        let command = self.command(t as usize).unwrap();
+        let command = self.current(t as usize);
         self.history.push(Event::Did {
             thread: t,
             command,
@@ -140,7 +140,7 @@ impl World {
         ensures others { OnOk result (OthersAgree (heap_of self.old) (heap_of self.new) t) }
         ensures err { OnErr result (self.new ≡ self.old) }
     {
-        let command = self.command(t as usize).unwrap();
+        let command = self.current(t as usize);
         let Command::NewCons { d, a, b } = command else {
             unreachable!();
         };

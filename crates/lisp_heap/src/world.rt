@@ -1,6 +1,6 @@
 //! The World.
 
-ghost use Rattle.std.specs.Prelude.{◌≡◌, ◌↔◌, ◌<◌, ℕ, [], length, IsTrue, OnOk, OnErr, Some};
+ghost use Rattle.std.specs.Prelude.{◌≡◌, ◌↔◌, ◌<◌, ℕ, [], length, IsSome, IsTrue, OnOk, OnErr, Some};
 ghost use Rattle.std.specs.Option.{ForSome};
 ghost use Rattle.heap_terms.specs.Heap.{thread_at};
 ghost use Rattle.heap_terms.specs.Regions.{wish_of, page_has_room};
@@ -83,7 +83,7 @@ impl World {
     }
 
     /// The command at thread t's place in its script.
-    pub(crate) fn command(&self, t: usize) -> Option<Command>
+    fn command(&self, t: usize) -> Option<Command>
         requires { t < length self.now.program.threads }
         ensures { result ≡ command_at self.now.program (heap_of self.now) t }
     {
@@ -94,6 +94,16 @@ impl World {
         } else {
             None
         }
+    }
+
+    /// The command at thread t's place in its script, which is not done yet.
+    #[inline(always)]
+    pub(crate) fn current(&self, t: usize) -> Command
+        requires thread { t < length self.now.program.threads }
+        requires there { IsSome (command_at self.now.program (heap_of self.now) t) }
+        ensures { command_at self.now.program (heap_of self.now) t ≡ Some result }
+    {
+        self.program.threads.item(t).at(self.states.at(t).done)
     }
 
     /// What thread t does next. Where it builds an object, every parcel of t that agrees has room
@@ -159,7 +169,7 @@ impl World {
     {
         // Looked into here, so that what follows may use what a World keeps true.
         let _program = &self.program;
-        let command = self.command(t as usize).unwrap();
+        let command = self.current(t as usize);
         // Each command has a way of its own to the history, so that its entry is built once.
         match command {
             Command::Fix { d, n } => {

@@ -1,7 +1,6 @@
 -- A command that allocates nothing is one event.
-use Rattle.std.proofs.Common.{◌≡◌, arith, subst, ◌∙◌, sym, refl, Option, Some}
+use Rattle.std.proofs.Common.{◌≡◌, arith, subst, sym, refl, Some}
 use Rattle.heap_terms.specs.declared.events.Event.TheVariants.{Did}
-use Rattle.heap_terms.specs.declared.commands.Command.{Command}
 use Rattle.heap_terms.specs.declared.pages.Next.TheVariants as nexts
 use Rattle.heap_terms.specs.Histories.{command_at, after}
 use Rattle.lisp_heap.specs.Plan.{IsPlan}
