@@ -5,7 +5,8 @@ ghost use Rattle.heap_terms.specs.Text.{number_field, field, type_text, item_tex
 ghost use Rattle.heap_terms.specs.declared.answers.Item.{Item as PageItem};
 
 use super::buffer::Text;
-use super::fields::{push, push_index, push_name_field, push_number, push_number_field};
+use super::fields::{push, push_index, push_name_field};
+use super::numbers::{push_number, push_number_field};
 use super::room::{GENERATION, ITEM, PAGE, TYPE};
 use heap_terms::{Item, PageType, PageView};
 use std::alloc::AllocError;

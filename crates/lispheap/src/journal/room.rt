@@ -6,8 +6,11 @@ pub(super) const NUMBER: usize = 20;
 /// A number as a field.
 pub(super) const NUMBER_FIELD: usize = 1 + NUMBER;
 
+/// A number of 8 bits.
+pub(super) const SMALL_NUMBER: usize = 3;
+
 /// A cell as a field: its letter and a number of 8 bits.
-pub(super) const CELL_FIELD: usize = 1 + 1 + 3;
+pub(super) const CELL_FIELD: usize = 1 + 1 + SMALL_NUMBER;
 
 /// A raw word: `0x` and 16 digits.
 pub(super) const WORD: usize = 2 + 16;
