@@ -22,7 +22,7 @@ pub(super) fn push<const N: usize>(out: &mut Text, bytes: &[u8; N])
     out.push(bytes);
 }
 
-// The letter and the number of a cell.
+/// The letter and the number of a cell.
 #[inline(always)]
 fn parts_of(c: Cell) -> (u8, u8)
     ensures { cell_text c ≡ result.0 ∷ decimal result.1 }
@@ -34,7 +34,7 @@ fn parts_of(c: Cell) -> (u8, u8)
     }
 }
 
-// Appends a field that is a letter and a number.
+/// Appends a field that is a letter and a number.
 #[inline(always)]
 #[tactic(auto, using(std::proofs::lemmas::Fmt::decimal_digit, crate::proofs::Decimals::decimal_two))]
 fn push_lettered(out: &mut Text, letter: u8, i: u8)
@@ -72,7 +72,7 @@ pub(super) fn push_raw(out: &mut Text, r: Raw)
     push_lettered(out, b'r', r.0);
 }
 
-// A hexadecimal digit.
+/// A hexadecimal digit.
 #[inline(always)]
 fn digit(d: u8) -> u8
     requires { d ≤ 15 }
@@ -92,7 +92,7 @@ pub(super) fn push_word(out: &mut Text, w: u64)
     push(out, &digits);
 }
 
-// The 16 hexadecimal digits of a word.
+/// The 16 hexadecimal digits of a word.
 fn digits_of(w: u64) -> [u8; 16]
     ensures { result ≡ hex_digits 16 w }
 {

@@ -59,7 +59,7 @@ pub(super) fn push_type(out: &mut Text, ty: PageType)
     }
 }
 
-// Appends the type and the generation of a page.
+/// Appends the type and the generation of a page.
 fn push_generation(out: &mut Text, ty: PageType, generation: u8)
     requires { GENERATION ≤ out.old.room }
     ensures text { out.new.text ≡ out.old.text ++ (type_text ty ++ field (codes "g" ++ decimal generation)) }
@@ -70,7 +70,7 @@ fn push_generation(out: &mut Text, ty: PageType, generation: u8)
     push_number(out, generation as u64);
 }
 
-// Appends the items of a page. Their room is reserved one by one.
+/// Appends the items of a page. Their room is reserved one by one.
 fn push_items(out: &mut Text, items: &[Item]) -> Result<(), AllocError>
     ensures { OnOk result (out.new.text
         ≡ out.old.text ++ flat_map (λ (item : PageItem). field (item_text item.name item.index item.count)) items.now) }
@@ -82,7 +82,7 @@ fn push_items(out: &mut Text, items: &[Item]) -> Result<(), AllocError>
     Ok(())
 }
 
-// Appends an item of a page.
+/// Appends an item of a page.
 fn push_item(out: &mut Text, item: &Item)
     requires { ITEM ≤ out.old.room }
     ensures { out.new.text ≡ out.old.text ++ field (item_text item.now.name item.now.index item.now.count) }

@@ -57,8 +57,8 @@ pub(super) const ARROW: usize = 4;
 /// `allocated` and ` cum` with their numbers.
 pub(super) const SIZES: usize = 9 + 4 + 2 * NUMBER_FIELD;
 
-/// An answer with its arrow and the end of its line, the longest of which has three numbers, the last
-/// behind ` num`. Answers of no bounded length reserve their own room.
+/// An answer with its arrow and the end of its line, the longest of which has three numbers, the
+/// last behind ` num`. Answers of no bounded length reserve their own room.
 pub(super) const ANSWER_LINE: usize = ARROW + SIZES + 4 + NUMBER_FIELD + 1;
 
 /// The line of a command with its answer: the longest line of an event.
