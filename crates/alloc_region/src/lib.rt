@@ -5,8 +5,7 @@
 
 mod buffer;
 mod region;
-
-pub use region::{Closed, Region};
-
 #[cfg(test)]
 mod tests;
+
+pub use region::{Closed, Region};

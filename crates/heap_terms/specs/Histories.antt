@@ -53,7 +53,7 @@ next p a t =
 abbrev pub advance : NamedHeap → ℕ → NamedHeap
 advance a t = with_thread a t (record (thread_at a t) { done = (thread_at a t).done + 1 })
 
--- how many words a wish asks for, and on which pages
+-- how many words a wish asks for
 abbrev pub wished_size : Wish → ℕ
 wished_size Nothing = 0
 wished_size (Make kind n seed) = size_of kind n

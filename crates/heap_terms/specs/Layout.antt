@@ -7,6 +7,7 @@ use Rattle.heap_terms.specs.declared.kinds.PageType.{PageType}
 use Rattle.heap_terms.specs.declared.kinds.PageType.TheVariants as types
 use Rattle.heap_terms.specs.declared.kinds.Weakness.{Weakness}
 use Rattle.heap_terms.specs.declared.kinds.Weakness.TheVariants as weaknesses
+use Rattle.heap_terms.specs.declared.limits.TheConstants.{PAGE_WORDS}
 
 -- the byte address of the word with index 0
 abbrev pub base_address : ℕ
@@ -26,7 +27,7 @@ filler_word = 0x41
 
 -- how many words a page has
 abbrev pub page_words : ℕ
-page_words = 512
+page_words = PAGE_WORDS
 
 -- the low four bits of a reference, by the kind of the object: SBCL's list, instance, function and other pointers
 abbrev pub lowtag_of : Kind → ℕ

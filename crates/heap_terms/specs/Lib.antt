@@ -2,7 +2,8 @@ pub mod Layout
 pub mod Objects
 pub mod Heap
 pub mod Cells
-pub mod Words
+pub mod Slots
+pub mod Spelling
 pub mod Valid
 pub mod Simple
 pub mod Regions
@@ -13,13 +14,8 @@ pub mod WellFormed
 pub mod Stands
 pub mod PageRuns
 pub mod Fresh
-pub mod Left
-pub mod Runs
-pub mod Order
-pub mod Plain
-pub mod Laws
 pub mod Fields
 pub mod Grammar
-pub mod Reading
+pub mod ScriptReading
 pub mod WordMachine
 pub mod Schedules

@@ -3,7 +3,7 @@
 use Rattle.std.specs.Prelude.{◌≡◌, ◌≢◌, ℕ, ◌≤◌, ◌⊎◌, List, [], ◌∷◌, ◌++◌, length, Option, Some, None, Result, Ok, Err, if◌then◌else◌, nat_lt, codes}
 use Rattle.heap_io.specs.Streams.{Stream, Rose, GaveAll, GaveMore, GaveAtMost, Grew}
 use Rattle.heap_terms.specs.declared.programs.Program.{Program}
-use Rattle.heap_terms.specs.Reading.{read_script, Fault as ScriptFault, LineFault, LimitFault}
+use Rattle.heap_terms.specs.ScriptReading.{read_script, Fault as ScriptFault, LineFault, LimitFault}
 use Rattle.lispheap.specs.declared.faults.Fault.{Fault}
 use Rattle.lispheap.specs.declared.faults.Fault.TheVariants as faults
 use Rattle.lispheap.specs.Journals.{IsJournal}

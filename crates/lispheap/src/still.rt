@@ -2,7 +2,7 @@
 
 ghost use Rattle.std.specs.Prelude.{◌≡◌, ◌↔◌, ◌<◌, ◌≤◌, ◌-◌, ◌^◌, None, Some, IsTrue, OnOk, IfOk, IfErr, codes, length, map};
 ghost use Rattle.std.specs.String.{string_bytes};
-ghost use Rattle.heap_terms.specs.Reading.{read_script};
+ghost use Rattle.heap_terms.specs.ScriptReading.{read_script};
 ghost use Rattle.heap_terms.specs.Valid.{IsValid};
 ghost use Rattle.lispheap.specs.Answers.{change, Answers, Ends, IsExact, IsReplay, IsInput, IsUnread, IsUnwritten, SaysAll, Refuses, Replays, Reports};
 ghost use Rattle.lispheap.specs.Journals.{IsJournal, IsJournalOf};

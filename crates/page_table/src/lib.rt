@@ -5,9 +5,8 @@
 
 mod packed;
 mod table;
+#[cfg(test)]
+mod tests;
 
 pub use heap_terms::Entry;
 pub use table::PageTable;
-
-#[cfg(test)]
-mod tests;

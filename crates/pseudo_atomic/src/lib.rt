@@ -1,12 +1,17 @@
 //! The word machine as functions: how threads agree to stop for a collection.
 //!
-//! There is one word for the turn to collect, and one word for each thread. A thread does one step at a time; a
-//! step reads one word, changes at most that one, and has an answer. The sections are after SBCL's pseudo-atomic
-//! sections; that a stop waits for the end of a section, the bits, the steps and the phases are this project's own.
+//! There is one word for the turn to collect, and one word for each thread. A thread does one step
+//! at a time; a step reads one word, changes at most that one, and has an answer. The sections are
+//! after SBCL's pseudo-atomic sections; that a stop waits for the end of a section, the bits, the
+//! steps and the phases are this project's own.
 #![tactic(auto)]
 
 ghost use Rattle.std.specs.Prelude.{◌≡◌, ◌≤◌, ◌<◌, ◌^◌, ◌∷◌, length, replicate, suc, IfOk, MatchOption};
 ghost use Rattle.heap_terms.specs.WordMachine.{place_of, becomes, answer, MayStep, words_after, answer_at};
+
+pub mod laws;
+#[cfg(test)]
+mod tests;
 
 use heap_terms::{Memory, Seq};
 pub use heap_terms::{StepAnswer, WordStep};
@@ -158,10 +163,10 @@ fn answered(step: WordStep, word: u64) -> StepAnswer
 
 /// Does one step of a thread, and tells what it found.
 ///
-/// The step reads one word and changes no other. It takes no memory. Resume and look answer `NotYet` where the
-/// thread has to wait, enter and leave answer `StopFound` where a stop stands in the thread's own word, claim
-/// answers `Taken` of the holder where the turn is not free, post answers `Inside` where the other thread is
-/// inside a section, and each step else answers `Went`.
+/// The step reads one word and changes no other. It takes no memory. Resume and look answer
+/// `NotYet` where the thread has to wait, enter and leave answer `StopFound` where a stop stands in
+/// the thread's own word, claim answers `Taken` of the holder where the turn is not free, post
+/// answers `Inside` where the other thread is inside a section, and each step else answers `Went`.
 pub fn word_step(state: &mut StopState, thread: u32, step: WordStep) -> StepAnswer
     requires thread { thread < length state.old.words }
     requires turn { state.old.turn ≤ 2 ^ 32 }
@@ -184,6 +189,3 @@ pub fn word_step(state: &mut StopState, thread: u32, step: WordStep) -> StepAnsw
         }
     }
 }
-
-#[cfg(test)]
-mod tests;

@@ -8,9 +8,9 @@ use Rattle.heap_terms.specs.declared.events.Event.{Event}
 use Rattle.heap_terms.specs.declared.programs.Program.{Program}
 use Rattle.heap_terms.specs.Heap.{start}
 use Rattle.heap_terms.specs.Histories.{replay}
-use Rattle.heap_terms.proofs.Threading.{start_thread}
+use Rattle.heap_laws.proofs.SoundHeaps.{start_thread}
 use Rattle.lisp_heap.specs.Agreement.{Agrees, AreFresh, OthersAgree}
-use Rattle.lisp_heap.specs.Parcels.{ParcelView, empty_parcel}
+use Rattle.lisp_heap.specs.ParcelView.{ParcelView, empty_parcel}
 use Rattle.lisp_heap.specs.View.{View, heap_of}
 use Rattle.replay_core.specs.Parcels.{AreReady}
 use Rattle.replay_core.specs.Stepping.{Turns}

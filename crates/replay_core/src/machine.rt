@@ -26,7 +26,6 @@ pub enum Stepped {
 /// A World with one parcel for each of its threads. It has to be spent, by
 /// [`Machine::into_world`].
 pub struct Machine {
-    alloc: Global,
     world: World,
     parcels: Vec<Parcel>,
 }
@@ -50,11 +49,7 @@ impl Machine {
         ensures history { IfOk result (λ m. m.history ≡ []) }
     {
         let (world, parcels) = World::new(alloc, program)?;
-        Ok(Machine {
-            alloc,
-            world,
-            parcels,
-        })
+        Ok(Machine { world, parcels })
     }
 
     /// The World. It takes no memory.
@@ -68,11 +63,7 @@ impl Machine {
     pub fn into_world(self) -> World
         ensures { result ≡ self }
     {
-        let Machine {
-            alloc: _alloc,
-            world,
-            parcels,
-        } = self;
+        let Machine { world, parcels } = self;
         put_away_all(parcels);
         world
     }
@@ -99,7 +90,7 @@ impl Machine {
         ensures err { OnErr result (self.new ≡ self.old) }
     {
         let parcel = &mut self.parcels[t as usize];
-        turn(self.alloc, &mut self.world, parcel)
+        turn(&mut self.world, parcel)
     }
 }
 

@@ -10,11 +10,10 @@ ghost use Rattle.replay_core.specs.Stepping.{Turns};
 
 use heap_terms::{Kind, Memory, Next, Owned};
 use lisp_heap::{Parcel, World};
-use std::alloc::Global;
 
 /// One turn of the parcel's owner: whether something happened, which is so unless it has ended. For
 /// want of memory the World is as it was.
-pub fn turn(alloc: Global, world: &mut World, parcel: &mut Parcel) -> Result<bool, Memory>
+pub fn turn(world: &mut World, parcel: &mut Parcel) -> Result<bool, Memory>
     requires thread { parcel.old.owner < length world.old.program.threads }
     requires agrees { Agrees (heap_of world.old) parcel.old }
     ensures ok { IfOk result (Turns parcel.old.owner world.old world.new) }
@@ -25,7 +24,7 @@ pub fn turn(alloc: Global, world: &mut World, parcel: &mut Parcel) -> Result<boo
 {
     match world.next(parcel.owner()) {
         Next::Simple => perform(world, parcel),
-        Next::Open => lend(alloc, world, parcel),
+        Next::Open => lend(world, parcel),
         Next::Build { kind, n, seed } => commit(world, parcel, kind, n, seed),
         Next::Collect(_) => collect(world, parcel),
         Next::End => end(world, parcel),
@@ -51,7 +50,7 @@ fn perform(world: &mut World, parcel: &mut Parcel) -> Result<bool, Memory>
 /// The turn of a thread that needs a region for its next object.
 #[cold]
 #[inline(never)]
-fn lend(alloc: Global, world: &mut World, parcel: &mut Parcel) -> Result<bool, Memory>
+fn lend(world: &mut World, parcel: &mut Parcel) -> Result<bool, Memory>
     requires thread { parcel.old.owner < length world.old.program.threads }
     requires agrees { Agrees (heap_of world.old) parcel.old }
     requires opens { next_of world.old parcel.old.owner ≡ Next.Open }
@@ -61,7 +60,7 @@ fn lend(alloc: Global, world: &mut World, parcel: &mut Parcel) -> Result<bool, M
     ensures owner { parcel.new.owner ≡ parcel.old.owner }
     ensures err { OnErr result (world.new ≡ world.old) }
 {
-    let _lent = world.lend(alloc, parcel)?;
+    let _lent = world.lend(parcel)?;
     Ok(true)
 }
 

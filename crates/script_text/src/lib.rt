@@ -15,7 +15,7 @@ mod turns;
 mod words;
 
 ghost use Rattle.std.specs.Prelude.{◌<◌, ◌-◌, ◌^◌, length, IfOk};
-ghost use Rattle.heap_terms.specs.Reading.{read_script};
+ghost use Rattle.heap_terms.specs.ScriptReading.{read_script};
 ghost use Rattle.heap_terms.specs.Valid.{IsValid};
 ghost use Rattle.script_text.specs.Gives.{Gives};
 

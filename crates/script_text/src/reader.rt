@@ -2,7 +2,7 @@
 
 ghost use Rattle.std.specs.Prelude.{◌≡◌, ◌<◌, ◌≤◌, ◌-◌, ◌^◌, ℕ, IsTrue, OnOk, OnErr, Ok, length, min, ok_or};
 ghost use Rattle.heap_terms.specs.Grammar.{Version, HeapOf, NewThread, Does, EndOfScript, schedule_of, statement_of};
-ghost use Rattle.heap_terms.specs.Reading.{within_limits, judged, judged_word, nothing_read, onto_last, finished, LineFault as MadeAt};
+ghost use Rattle.heap_terms.specs.ScriptReading.{within_limits, judged, judged_word, nothing_read, onto_last, finished, LineFault as MadeAt};
 ghost use Rattle.heap_terms.specs.declared.faults.Why.TheVariants.{Missing};
 ghost use Rattle.heap_terms.specs.Valid.{is_gc};
 ghost use Rattle.script_text.specs.Answers.{IsJudged};
@@ -46,7 +46,7 @@ pub(crate) struct Reader {
 }
 
 impl Model for Reader {
-    ghost use Rattle.heap_terms.specs.Reading.{SoFar};
+    ghost use Rattle.heap_terms.specs.ScriptReading.{SoFar};
 
     ghost Value = { SoFar };
 
@@ -194,7 +194,7 @@ impl Reader {
     }
 
     /// A line with its word, wherever it stands.
-    #[tactic(auto, unfolding(heap_terms::specs::Reading::judged_word))]
+    #[tactic(auto, unfolding(heap_terms::specs::ScriptReading::judged_word))]
     fn placed(&mut self, alloc: Global, word: Keyword, left: &mut Cursor) -> Result<(), LineFault>
         ensures judged { IsJudged result self.new (judged_word self.old (text_of word) (fields_left left.old)) }
         ensures lines { OnOk result (lines_after left.new ≡ lines_after left.old) }
@@ -223,7 +223,7 @@ impl Reader {
     /// The same, whatever the line and its spelling.
     #[cold]
     #[inline(never)]
-    #[tactic(auto, unfolding(heap_terms::specs::Reading::judged, heap_terms::specs::Reading::judged_word))]
+    #[tactic(auto, unfolding(heap_terms::specs::ScriptReading::judged, heap_terms::specs::ScriptReading::judged_word))]
     fn any_line(&mut self, alloc: Global, left: &mut Cursor) -> Result<(), LineFault>
         ensures judged { IsJudged result self.new (judged self.old (fields_left left.old)) }
         ensures lines { OnOk result (lines_after left.new ≡ lines_after left.old) }

@@ -2,7 +2,7 @@
 //! read in its usual spelling, at the very front of the line and with one space after it.
 
 ghost use Rattle.std.specs.Prelude.{◌≡◌, ◌-◌, false, take, MatchOption, IfSome};
-ghost use Rattle.heap_terms.specs.Reading.{may_follow};
+ghost use Rattle.heap_terms.specs.ScriptReading.{may_follow};
 ghost use Rattle.heap_terms.specs.Valid.{is_built};
 ghost use Rattle.script_text.specs.Left.{IsSpelled, Taken};
 ghost use Rattle.script_text.specs.Words.{text_of, text_of_name, place_of};

@@ -11,3 +11,4 @@ pub mod Looking
 pub mod Handing
 pub mod Releasing
 pub mod Machine
+pub mod Stepping

@@ -22,32 +22,32 @@ looks_on u v w a b = record { thread = b.thread ∙ a.thread; place = b.place �
 pub record OneLook (u : ℕ) (v w : View) : Type 0 where
   pub looked : OnlyLooked v w
   pub steps : w.steps ≡ v.steps + 1
-  pub word : w.word ≡ suc u
+  pub word : (w.word ≡ suc u) × (w.left ≡ w.found)
   pub seen : has 4 w.found ≡ true → is_in u w.seen ≡ true
 
 still : (u x : ℕ) (us : List ℕ) → is_in x us ≡ true → is_in x (u ∷ us) ≡ true
 still u x us e = ⊎_elim (λ (h : x ≡ u). in_here x u us h) (λ (h : x ≢ u). in_else x u us h ∙ e) (same_or_not x u)
 
-by_tests : (u : ℕ) (v w : View) (b c : Bool) → has 4 w.found ≡ b → is_in u v.seen ≡ c → w ≡ counted (if b then seeing c u v else v) (suc u) w.found → OneLook u v w
+by_tests : (u : ℕ) (v w : View) (b c : Bool) → has 4 w.found ≡ b → is_in u v.seen ≡ c → w ≡ counted (if b then seeing c u v else v) (suc u) w.found w.found → OneLook u v w
 by_tests u v w true true b_is c_is e =
     let s = ap (λ (k : View). k.seen) e in record {
       looked = record { thread = ap (λ (k : View). k.thread) e; place = ap (λ (k : View). k.place) e; posted = ap (λ (k : View). k.posted) e; given = ap (λ (k : View). k.given) e; more = λ x h. ap (is_in x) s ∙ h };
       steps = ap (λ (k : View). k.steps) e;
-      word = ap (λ (k : View). k.word) e;
+      word = (ap (λ (k : View). k.word) e, ap (λ (k : View). k.left) e);
       seen = λ _. ap (is_in u) s ∙ c_is;
     }
 by_tests u v w true false b_is c_is e =
     let s = ap (λ (k : View). k.seen) e in record {
       looked = record { thread = ap (λ (k : View). k.thread) e; place = ap (λ (k : View). k.place) e; posted = ap (λ (k : View). k.posted) e; given = ap (λ (k : View). k.given) e; more = λ x h. ap (is_in x) s ∙ still u x v.seen h };
       steps = ap (λ (k : View). k.steps) e;
-      word = ap (λ (k : View). k.word) e;
+      word = (ap (λ (k : View). k.word) e, ap (λ (k : View). k.left) e);
       seen = λ _. ap (is_in u) s ∙ in_here u u v.seen refl;
     }
 by_tests u v w false c b_is c_is e =
     let s = ap (λ (k : View). k.seen) e in record {
       looked = record { thread = ap (λ (k : View). k.thread) e; place = ap (λ (k : View). k.place) e; posted = ap (λ (k : View). k.posted) e; given = ap (λ (k : View). k.given) e; more = λ x h. ap (is_in x) s ∙ h };
       steps = ap (λ (k : View). k.steps) e;
-      word = ap (λ (k : View). k.word) e;
+      word = (ap (λ (k : View). k.word) e, ap (λ (k : View). k.left) e);
       seen = λ h. absurd (true_not_false (sym h ∙ b_is));
     }
 
@@ -79,7 +79,7 @@ stops a b k u v w le lt s e parked =
       looked = looks_on u v w s.looked o.looked;
       range = (le, lt);
       seen_below = λ x lo hi. o.looked.more x (s.seen_all x lo hi);
-      latest = (o.word, parked);
+      latest = (o.word.0, parked, o.word.1);
       steps = let p = o.steps in let q = s.steps in omega arith;
     }
 

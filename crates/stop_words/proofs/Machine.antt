@@ -1,7 +1,8 @@
--- The words of the rule are those of the word machine: from the word that the rule has before a step, the machine's step makes the word that the rule has after it.
+-- The words of the rule are those of the word machine: from the word that the rule has before a step, the machine's
+-- step makes the word that the rule has after it.
 use Rattle.std.proofs.Common.{◌≡◌, ◌≢◌, ℕ, suc, Bool, true, false, refl}
 use Rattle.std.specs.Prelude.{if◌then◌else◌}
-use Rattle.heap_terms.specs.declared.steps.WordStep.TheVariants.{Resume, Enter, Leave, Park, Claim, Post, Look, Release, Return}
+use Rattle.heap_terms.specs.declared.steps.WordStep.TheVariants.{Resume, Enter, Leave, Park, Claim, Post, Release}
 use Rattle.heap_terms.specs.WordMachine.{becomes}
 use Rattle.stop_words.specs.declared.view.Place.{Place}
 use Rattle.stop_words.specs.declared.view.Place.TheVariants.{Parked, Outside, Inside, Holding}
@@ -35,9 +36,6 @@ post_becomes t u Inside false = refl
 post_becomes t u Holding true = refl
 post_becomes t u Holding false = refl
 
-pub look_becomes : (t u : ℕ) (p : Place) (stop : Bool) → becomes t (Look u) (word_of p stop) ≡ word_of p stop
-look_becomes t u p stop = refl
-
 pub release_becomes : (t u : ℕ) → becomes t (Release u) (word_of Parked true) ≡ word_of Parked false
 release_becomes t u = refl
 
@@ -47,6 +45,3 @@ claim_becomes t turn e = if_same turn 0 (suc t) turn e
 
 pub taken_becomes : (t turn : ℕ) → turn ≢ 0 → becomes t Claim turn ≡ turn
 taken_becomes t turn ne = if_other turn 0 (suc t) turn ne
-
-pub return_becomes : (t turn : ℕ) → becomes t Return turn ≡ 0
-return_becomes t turn = refl

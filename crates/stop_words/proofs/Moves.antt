@@ -8,6 +8,7 @@ use Rattle.atomic_table.specs.Table.{State, Me, step, Act, Valid, homes_after, c
 use Rattle.atomic_table.specs.Table.Act.{keeps, takes, gives, chain}
 use Rattle.atomic_table.proofs.Lists.{set_here, set_else}
 use Rattle.heap_terms.specs.declared.steps.WordStep.TheVariants.{Resume, Enter, Leave, Park, Claim, Post, Look, Release, Return}
+use Rattle.heap_terms.specs.WordMachine.{becomes}
 use Rattle.stop_words.specs.declared.view.Place.{Place}
 use Rattle.stop_words.specs.declared.view.Place.TheVariants.{Parked, Outside, Inside, Holding}
 use Rattle.stop_words.specs.declared.view.View.{View}
@@ -196,12 +197,12 @@ module _ {P : Type 0} (owner : P → ℕ) (n : ℕ) where
       let lt = holder_below s r h.0 h.1 in
       let c = r.slot_count in
       let x = slice_index s.words 0 in (
-        counted m.0 0 x,
+        counted m.0 0 x (becomes m.0.thread Claim x),
         keeps,
         tt,
-        subst (λ k. StopRule owner n (record { words = set s.words 0 k; homes = s.homes; views = set s.views id (counted m.0 0 x) })) (sym (ap (λ b. either b new x) (ne_eqb x 0 ne)))
-            (same_step owner n s r id m.0 at 0 x refl (counted m.0 0 x) (record { thread = refl; given = refl }) refl refl refl),
-        (ap (λ k. counted k 0 x) (sym (if_other x 0 (moved m.0 Holding) m.0 ne)), refl, omega arith, (λ z. outside_not_holding here (r.turn id (z ∙ ap suc mine.number)))),
+        subst (λ k. StopRule owner n (record { words = set s.words 0 k; homes = s.homes; views = set s.views id (counted m.0 0 x (becomes m.0.thread Claim x)) })) (sym (ap (λ b. either b new x) (ne_eqb x 0 ne)))
+            (same_step owner n s r id m.0 at 0 x refl (counted m.0 0 x (becomes m.0.thread Claim x)) (record { thread = refl; given = refl }) refl refl refl),
+        (ap (λ k. counted k 0 x (becomes m.0.thread Claim x)) (sym (if_other x 0 (moved m.0 Holding) m.0 ne)), refl, omega arith, (λ z. outside_not_holding here (r.turn id (z ∙ ap suc mine.number)))),
       ))
       (same_or_not (slice_index s.words 0) 0)
 

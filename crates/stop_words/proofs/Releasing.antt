@@ -35,7 +35,7 @@ one_back a k v w x le b e =
           (λ (ne : u ≢ k). in_without u k w.posted ne ∙ b.gone u lo (omega arith))
           (same_or_not u k);
       steps = let s = ap (λ (y : View). y.steps) e in let p = b.steps in omega arith;
-      latest = λ lt. (ap (λ (y : View). y.word) e ∙ sym (add-one k), ap (λ (y : View). y.found) e);
+      latest = λ lt. (ap (λ (y : View). y.word) e ∙ sym (add-one k), ap (λ (y : View). y.found) e, ap (λ (y : View). y.left) e);
     }
 
 -- all others were released, those below t and those above it
@@ -54,7 +54,7 @@ gives_back t n r v w x y lt is below above e r_is = record {
   lists = (ap (λ (k : View). k.posted) e, ap (λ (k : View). k.seen) e);
   given = ap (λ (k : View). k.given) e ∙ above.given ∙ below.given;
   steps = let s = ap (λ (k : View). k.steps) e in let p = below.steps in let q = above.steps in omega arith;
-  latest = (ap (λ (k : View). k.word) e, ap (λ (k : View). k.found) e ∙ r_is ∙ ap suc (above.thread ∙ below.thread));
+  latest = (ap (λ (k : View). k.word) e, ap (λ (k : View). k.found) e ∙ r_is ∙ ap suc (above.thread ∙ below.thread), ap (λ (k : View). k.left) e);
 }
 
 module _ {P : Type 0} (owner : P → ℕ) where

@@ -5,7 +5,7 @@ use Rattle.atomic_table.specs.Seated.{TableId}
 use Rattle.atomic_table.specs.Table.{Me, step, rest}
 use mathlib.Core.Option.{none}
 use Rattle.heap_terms.specs.declared.steps.WordStep.TheVariants.{Resume, Enter, Leave, Park, Claim, Post, Look}
-use Rattle.heap_terms.specs.WordMachine.{has}
+use Rattle.heap_terms.specs.WordMachine.{has, becomes}
 use Rattle.stop_words.specs.declared.view.Place.TheVariants.{Parked, Outside, Inside, Holding}
 use Rattle.stop_words.specs.declared.view.View.{View}
 use Rattle.stop_words.specs.Places.{is_in, lists_at}
@@ -80,8 +80,8 @@ module _ {P : Type 0} (owner : P → ℕ) where
     after_claim r placed view hand = ⊎_elim
         (λ (e : r ≡ 0).
         let v = m.0 in
-        let w = counted (moved v Holding) 0 r in
-        let is : n.0 ≡ w = view ∙ ap (λ k. counted k 0 r) (if_same r 0 (moved v Holding) v e) in
+        let w = counted (moved v Holding) 0 r (becomes v.thread Claim r) in
+        let is : n.0 ≡ w = view ∙ ap (λ k. counted k 0 r (becomes v.thread Claim r)) (if_same r 0 (moved v Holding) v e) in
         subst (λ k. Facts owner thread_no is_out now (k, n.1)) (sym is) (record {
           number = f.number;
           in_range = let l = f.in_range in omega arith;
@@ -92,7 +92,7 @@ module _ {P : Type 0} (owner : P → ℕ) where
         }))
         (λ (ne : r ≢ 0).
         let v = m.0 in
-        let is : n.0 ≡ counted v 0 r = view ∙ ap (λ k. counted k 0 r) (if_other r 0 (moved v Holding) v ne) in
+        let is : n.0 ≡ counted v 0 r (becomes v.thread Claim r) = view ∙ ap (λ k. counted k 0 r (becomes v.thread Claim r)) (if_other r 0 (moved v Holding) v ne) in
         subst (λ k. Facts owner thread_no is_out now (k, n.1)) (sym is) (record {
           number = f.number;
           in_range = let l = f.in_range in omega arith;
@@ -116,7 +116,7 @@ module _ {P : Type 0} (owner : P → ℕ) where
     pub after_enter : (r : ℕ) → m.0.place ≡ Outside → n.0 ≡ view_after Enter r m.0 → n.1 ≡ m.1 → Facts owner thread_no is_out now n
     after_enter r placed view hand = ⊎_elim
         (λ (e : r ≡ 0).
-        let is : n.0 ≡ counted (moved m.0 Inside) (suc m.0.thread) r = view ∙ ap (λ k. counted k (suc m.0.thread) r) (if_same r 0 (moved m.0 Inside) m.0 e) in
+        let is : n.0 ≡ counted (moved m.0 Inside) (suc m.0.thread) r (becomes m.0.thread Enter r) = view ∙ ap (λ k. counted k (suc m.0.thread) r (becomes m.0.thread Enter r)) (if_same r 0 (moved m.0 Inside) m.0 e) in
         subst (λ k. Facts owner thread_no is_out now (k, n.1)) (sym is) (record {
           number = f.number;
           in_range = let l = f.in_range in omega arith;
@@ -126,7 +126,7 @@ module _ {P : Type 0} (owner : P → ℕ) where
           gathered = λ z. absurd (never_out placed z);
         }))
         (λ (ne : r ≢ 0).
-        let is : n.0 ≡ counted m.0 (suc m.0.thread) r = view ∙ ap (λ k. counted k (suc m.0.thread) r) (if_other r 0 (moved m.0 Inside) m.0 ne) in
+        let is : n.0 ≡ counted m.0 (suc m.0.thread) r (becomes m.0.thread Enter r) = view ∙ ap (λ k. counted k (suc m.0.thread) r (becomes m.0.thread Enter r)) (if_other r 0 (moved m.0 Inside) m.0 ne) in
         subst (λ k. Facts owner thread_no is_out now (k, n.1)) (sym is) (record {
           number = f.number;
           in_range = let l = f.in_range in omega arith;
@@ -147,16 +147,16 @@ module _ {P : Type 0} (owner : P → ℕ) where
       gathered = λ z. let g = f.gathered z in (g.0, λ k lt. g.1 k (omega arith));
     })
 
-    looked : (b c : Bool) (u r : ℕ) → (n.0 ≡ counted (if b then seeing c u m.0 else m.0) (suc u) r) → (n.0.thread ≡ m.0.thread) × (n.0.place ≡ m.0.place) × (n.0.posted ≡ m.0.posted)
+    looked : (b c : Bool) (u r : ℕ) → (n.0 ≡ counted (if b then seeing c u m.0 else m.0) (suc u) r r) → (n.0.thread ≡ m.0.thread) × (n.0.place ≡ m.0.place) × (n.0.posted ≡ m.0.posted)
     looked true true u r e = (ap (λ (v : View). v.thread) e, ap (λ (v : View). v.place) e, ap (λ (v : View). v.posted) e)
     looked true false u r e = (ap (λ (v : View). v.thread) e, ap (λ (v : View). v.place) e, ap (λ (v : View). v.posted) e)
     looked false c u r e = (ap (λ (v : View). v.thread) e, ap (λ (v : View). v.place) e, ap (λ (v : View). v.posted) e)
 
-    seen_again : (b : Bool) (u r : ℕ) → is_in u m.0.seen ≡ true → n.0 ≡ counted (if b then seeing (is_in u m.0.seen) u m.0 else m.0) (suc u) r → n.0.seen ≡ m.0.seen
+    seen_again : (b : Bool) (u r : ℕ) → is_in u m.0.seen ≡ true → n.0 ≡ counted (if b then seeing (is_in u m.0.seen) u m.0 else m.0) (suc u) r r → n.0.seen ≡ m.0.seen
     seen_again true u r t e = ap (λ (v : View). v.seen) e ∙ ap (λ c. (seeing c u m.0).seen) t
     seen_again false u r t e = ap (λ (v : View). v.seen) e
 
-    alone_after : (b c : Bool) (u r : ℕ) → n.0 ≡ counted (if b then seeing c u m.0 else m.0) (suc u) r → u ≢ m.0.thread → is_in n.0.thread n.0.seen ≡ false
+    alone_after : (b c : Bool) (u r : ℕ) → n.0 ≡ counted (if b then seeing c u m.0 else m.0) (suc u) r r → u ≢ m.0.thread → is_in n.0.thread n.0.seen ≡ false
     alone_after true true u r e apart = ap (λ (v : View). is_in v.thread v.seen) e ∙ f.alone
     alone_after true false u r e apart = ap (λ (v : View). is_in v.thread v.seen) e ∙ in_else m.0.thread u m.0.seen (λ z. apart (sym z)) ∙ f.alone
     alone_after false c u r e apart = ap (λ (v : View). is_in v.thread v.seen) e ∙ f.alone
@@ -193,7 +193,7 @@ module _ {P : Type 0} (owner : P → ℕ) where
     pub after_resume : (r : ℕ) → m.0.place ≡ Parked → n.0 ≡ view_after Resume r m.0 → (r ≡ 4 → labels owner n.1 ≡ (m.0.thread, None) ∷ []) → (r ≢ 4 → n.1 ≡ []) → Facts owner thread_no is_out now n
     after_resume r placed view went stays = ⊎_elim
         (λ (e : r ≡ 4).
-        let is : n.0 ≡ counted (moved m.0 Outside) (suc m.0.thread) r = view ∙ ap (λ k. counted k (suc m.0.thread) r) (if_same r 4 (moved m.0 Outside) m.0 e) in
+        let is : n.0 ≡ counted (moved m.0 Outside) (suc m.0.thread) r (becomes m.0.thread Resume r) = view ∙ ap (λ k. counted k (suc m.0.thread) r (becomes m.0.thread Resume r)) (if_same r 4 (moved m.0 Outside) m.0 e) in
         subst (λ k. Facts owner thread_no is_out now (k, n.1)) (sym is) (record {
           number = f.number;
           in_range = let l = f.in_range in omega arith;
@@ -203,7 +203,7 @@ module _ {P : Type 0} (owner : P → ℕ) where
           gathered = λ z. let q : Parked ≡ Holding = sym placed ∙ (f.gathered z).0 in absurd (cc);
         }))
         (λ (ne : r ≢ 4).
-        let is : n.0 ≡ counted m.0 (suc m.0.thread) r = view ∙ ap (λ k. counted k (suc m.0.thread) r) (if_other r 4 (moved m.0 Outside) m.0 ne) in
+        let is : n.0 ≡ counted m.0 (suc m.0.thread) r (becomes m.0.thread Resume r) = view ∙ ap (λ k. counted k (suc m.0.thread) r (becomes m.0.thread Resume r)) (if_other r 4 (moved m.0 Outside) m.0 ne) in
         subst (λ k. Facts owner thread_no is_out now (k, n.1)) (sym is) (record {
           number = f.number;
           in_range = let l = f.in_range in omega arith;

@@ -1,4 +1,5 @@
--- What the holder of the turn knows after looking at the other threads, and after it took their stops back. This project's own.
+-- What the holder of the turn knows after looking at the other threads, and after it took their stops back. This
+-- project's own.
 use Rattle.std.specs.Prelude.{◌≡◌, ◌≢◌, ◌+◌, ◌-◌, ◌<◌, ◌≤◌, ◌⊎◌, ℕ, suc, true, false, []}
 use Rattle.heap_terms.specs.WordMachine.{has}
 use Rattle.stop_words.specs.declared.view.Place.TheVariants.{Outside}
@@ -6,7 +7,8 @@ use Rattle.stop_words.specs.declared.view.View.{View}
 use Rattle.stop_words.specs.Places.{is_in}
 use Rattle.stop_words.specs.Views.{SeenAll, others_below}
 
--- Steps that only looked: the view is the same but for the threads that were seen, of which there may be more, the count of steps and the latest step
+-- Steps that only looked: the view is the same but for the threads that were seen, of which there may be more, the
+-- count of steps and the latest step
 pub record OnlyLooked (v w : View) : Type 0 where
   pub thread : w.thread ≡ v.thread
   pub place : w.place ≡ v.place
@@ -25,17 +27,18 @@ pub record Unseen (threads u : ℕ) (v w : View) : Type 0 where
   pub looked : OnlyLooked v w
   pub other : (u < threads) × (u ≢ v.thread)
   pub seen_below : (k : ℕ) → k < u → k ≢ v.thread → is_in k w.seen ≡ true
-  pub latest : (w.word ≡ suc u) × (has 4 w.found ≡ false)
+  pub latest : (w.word ≡ suc u) × (has 4 w.found ≡ false) × (w.left ≡ w.found)
   pub steps : w.steps ≡ v.steps + others_below v.thread (u + 1)
 
--- the stops of all other threads were taken back, in as many steps as there are others, and then the turn was given back
+-- the stops of all other threads were taken back, in as many steps as there are others, and then the turn was given
+-- back
 pub record GaveBack (threads : ℕ) (v w : View) : Type 0 where
   pub thread : w.thread ≡ v.thread
   pub place : w.place ≡ Outside
   pub lists : (w.posted ≡ []) × (w.seen ≡ [])
   pub given : w.given ≡ v.given
   pub steps : w.steps ≡ v.steps + threads
-  pub latest : (w.word ≡ 0) × (w.found ≡ suc v.thread)
+  pub latest : (w.word ≡ 0) × (w.found ≡ suc v.thread) × (w.left ≡ 0)
 
 -- the stops of the threads from a to k were taken back, in as many steps, that of the last of them last
 pub record PutBack (a k : ℕ) (v w : View) : Type 0 where
@@ -46,4 +49,4 @@ pub record PutBack (a k : ℕ) (v w : View) : Type 0 where
   pub seen : (u : ℕ) → (u < a) ⊎ (k ≤ u) → is_in u w.seen ≡ is_in u v.seen
   pub gone : (u : ℕ) → a ≤ u → u < k → is_in u w.posted ≡ false
   pub steps : w.steps ≡ v.steps + (k - a)
-  pub latest : a < k → (w.word ≡ k) × (w.found ≡ 6)
+  pub latest : a < k → (w.word ≡ k) × (w.found ≡ 6) × (w.left ≡ 4)

@@ -10,3 +10,4 @@ pub mod Slots
 pub mod Gathers
 pub mod Looks
 pub mod Lending
+pub mod Laws

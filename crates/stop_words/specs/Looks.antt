@@ -16,7 +16,7 @@ pub record StoppedAt (a b u : ℕ) (v w : View) : Type 0 where
   pub looked : OnlyLooked v w
   pub range : (a ≤ u) × (u < b)
   pub seen_below : (k : ℕ) → a ≤ k → k < u → is_in k w.seen ≡ true
-  pub latest : (w.word ≡ suc u) × (has 4 w.found ≡ false)
+  pub latest : (w.word ≡ suc u) × (has 4 w.found ≡ false) × (w.left ≡ w.found)
   pub steps : w.steps ≡ v.steps + (u + 1 - a)
 
 -- all threads from a to b were seen parked, or one was not

@@ -1,6 +1,6 @@
--- What holds between any two steps on the words. This project's own.
--- The turn is the number of the holder and one more, or 0. The word of a thread tells its place, and whether the holder has posted a
--- stop to it. A parcel lies in the slot of its thread, unless the thread runs or the holder has seen it parked: then a seat has the slot.
+-- What holds between any two steps on the words. This project's own. The turn is the number of the holder and one more,
+-- or 0. The word of a thread tells its place, and whether the holder has posted a stop to it. A parcel lies in the slot
+-- of its thread, unless the thread runs or the holder has seen it parked: then a seat has the slot.
 use Rattle.std.specs.Prelude.{◌≡◌, ◌≢◌, ◌<◌, ◌≤◌, ◌+◌, ℕ, suc, Bool, true, false, Option, Some, List, [], length, slice_index}
 use mathlib.Core.Option.{some, none}
 use lib.ListN.{get_elem?}
@@ -47,7 +47,7 @@ pub record StopRule {P : Type 0} (owner : P → ℕ) (n : ℕ) (s : State (Optio
 
 -- the view of the first seat
 abbrev pub first_view : View
-first_view = record { thread = 0; place = Parked; posted = []; seen = []; given = 1; steps = 0; word = 0; found = 0 }
+first_view = record { thread = 0; place = Parked; posted = []; seen = []; given = 1; steps = 0; word = 0; found = 0; left = 0 }
 
 -- the view of the first seat after a new seat was split off
 abbrev pub splitting : View → View
@@ -55,7 +55,7 @@ splitting v = record v { given = v.given + 1 }
 
 -- the view of the new seat
 abbrev pub split_off : View → View
-split_off v = record { thread = v.given; place = Parked; posted = []; seen = []; given = 0; steps = 0; word = 0; found = 0 }
+split_off v = record { thread = v.given; place = Parked; posted = []; seen = []; given = 0; steps = 0; word = 0; found = 0; left = 0 }
 
 -- the view of the first seat, once k numbers were given
 abbrev pub giving : ℕ → View

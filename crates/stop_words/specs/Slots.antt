@@ -9,9 +9,9 @@ parcels_in [] = []
 parcels_in (Some p ∷ xs) = p ∷ parcels_in xs
 parcels_in (None ∷ xs) = parcels_in xs
 
--- What was in the words and slots at the end: the rule held, and the parcels are those of the slots, in their order, so by ascending thread.
--- A slot that a seat had may have any value here. A thread whose word said that it was parked, with no stop posted to it, left its parcel in
--- its slot
+-- What was in the words and slots at the end: the rule held, and the parcels are those of the slots, in their order, so
+-- by ascending thread. A slot that a seat had may have any value here. A thread whose word said that it was parked,
+-- with no stop posted to it, left its parcel in its slot
 pub record ClosesWith {P : Type 0} (owner : P → ℕ) (threads : ℕ) (parcels : List P) : Type 0 where
   pub words : List ℕ
   pub slots : List (Option P)

@@ -2,7 +2,7 @@
 use Rattle.std.specs.Prelude.{◌≡◌, ◌≢◌, ◌==◌, ◌+◌, ◌-◌, ◌<◌, ◌<◌, ℕ, Bool, true, false, [], ◌∷◌, if◌then◌else◌, nat_lt}
 use Rattle.heap_terms.specs.declared.steps.WordStep.{WordStep}
 use Rattle.heap_terms.specs.declared.steps.WordStep.TheVariants.{Resume, Enter, Leave, Park, Claim, Post, Look, Release, Return}
-use Rattle.heap_terms.specs.WordMachine.{has, place_of}
+use Rattle.heap_terms.specs.WordMachine.{has, place_of, becomes}
 use Rattle.stop_words.specs.declared.view.Place.{Place}
 use Rattle.stop_words.specs.declared.view.Place.TheVariants.{Parked, Outside, Inside, Holding}
 use Rattle.stop_words.specs.declared.view.View.{View}
@@ -29,13 +29,13 @@ changed_by (Look u) found v = if has 4 found then seeing (is_in u v.seen) u v el
 changed_by (Release u) found v = record v { posted = without u v.posted; seen = without u v.seen }
 changed_by Return found v = record v { place = Outside; posted = []; seen = [] }
 
--- one more step, which met this word and found this in it
-abbrev pub counted : View → ℕ → ℕ → View
-counted v i n = record v { steps = v.steps + 1; word = i; found = n }
+-- one more step, which met this word, found this in it, and left that
+abbrev pub counted : View → ℕ → ℕ → ℕ → View
+counted v i n k = record v { steps = v.steps + 1; word = i; found = n; left = k }
 
--- the view after a step that found this word
+-- the view after a step that found this word: it left in it what the step of the word machine makes of it
 abbrev pub view_after : WordStep → ℕ → View → View
-view_after step n v = counted (changed_by step n v) (place_of v.thread step) n
+view_after step n v = counted (changed_by step n v) (place_of v.thread step) n (becomes v.thread step n)
 
 -- the holder of the turn has posted a stop to each other thread
 abbrev pub PostedToAll : View → ℕ → Type 0

@@ -1,4 +1,5 @@
-//! What the holder of the turn does once it has posted to all: it gathers the parcels, and releases the threads.
+//! What the holder of the turn does once it has posted to all: it gathers the parcels, and releases
+//! the threads.
 ghost use Rattle.std.specs.Prelude.{◌≡◌, ◌≢◌, ◌⊎◌, ℕ, ◌+◌, ◌-◌, ◌<◌, ◌≤◌, List, [], ◌∷◌, ◌++◌, suc, true, false, None, Some, Option, map, reverse, length, slice_get, is_ok, vec_len, vec_capacity, MatchOption, IfOk, IfErr, OnOk};
 ghost use Rattle.heap_terms.specs.WordMachine.{has};
 ghost use Rattle.stop_words.specs.Places.{is_in};
@@ -68,7 +69,8 @@ impl<P: Owned> StopWords<P> {
         }
     }
 
-    /// Takes the parcels out of the slots of a range, which come first in the hand. Those slots are last then.
+    /// Takes the parcels out of the slots of a range, which come first in the hand. Those slots are
+    /// last then.
     fn take_range(&self, seat: &mut Seat<Option<P>, View>, into: &mut Vec<P>, from: u32, to: u32)
         requires table { seat.old.table_id ≡ self.now.table.shared.table_id }
         requires range { from ≤ to }
@@ -113,7 +115,8 @@ impl<P: Owned> StopWords<P> {
         into
     }
 
-    /// Puts a parcel into the slot of its thread, which comes first in the hand, and takes back the thread's stop.
+    /// Puts a parcel into the slot of its thread, which comes first in the hand, and takes back the
+    /// thread's stop.
     fn put_back(&self, seat: &mut Seat<Option<P>, View>, slot: u32, parcel: P)
         requires table { seat.old.table_id ≡ self.now.table.shared.table_id }
         requires slot { (slot < threads_of self.now) × (P.owner_of parcel ≡ slot) }
@@ -130,7 +133,8 @@ impl<P: Owned> StopWords<P> {
         shared.fetch_and::<Releases<P>>(seat, word, !STOP);
     }
 
-    /// Puts the parcels of a range of threads back, whose slots come first in the hand, and takes their stops back.
+    /// Puts the parcels of a range of threads back, whose slots come first in the hand, and takes
+    /// their stops back.
     fn put_range(&self, seat: &mut Seat<Option<P>, View>, parcels: &mut Vec<P>, from: u32, to: u32)
         requires table { seat.old.table_id ≡ self.now.table.shared.table_id }
         requires range { (from ≤ to) × (to ≤ threads_of self.now) }
@@ -150,7 +154,8 @@ impl<P: Owned> StopWords<P> {
         }
     }
 
-    /// Puts all parcels but the own one back, takes the stops of the other threads back, and gives the turn back.
+    /// Puts all parcels but the own one back, takes the stops of the other threads back, and gives
+    /// the turn back.
     fn put_all(
         &self,
         seat: &mut Seat<Option<P>, View>,
@@ -181,10 +186,10 @@ impl<P: Owned> StopWords<P> {
 
     /// Gathers the parcels of all threads, once each other thread has parked.
     ///
-    /// The seat holds the turn, has posted to all others, and has no `Gathered` out. `own` is the parcel of the
-    /// seat's thread, and `into` is empty, with room for all parcels. It looks at the words of the other threads in
-    /// ascending order, with one load each, up to the first that has not parked: this one is told by `NotYet`. It
-    /// takes no memory and does not wait.
+    /// The seat holds the turn, has posted to all others, and has no `Gathered` out. `own` is the
+    /// parcel of the seat's thread, and `into` is empty, with room for all parcels. It looks at the
+    /// words of the other threads in ascending order, with one load each, up to the first that has
+    /// not parked: this one is told by `NotYet`. It takes no memory and does not wait.
     pub fn gather(
         &self,
         seat: &mut StopSeat<P>,
@@ -213,11 +218,12 @@ impl<P: Owned> StopWords<P> {
         Ok(Gathered { parcels })
     }
 
-    /// Puts the parcels of all other threads back, takes their stops back, in ascending order, and gives the turn back.
+    /// Puts the parcels of all other threads back, takes their stops back, in ascending order, and
+    /// gives the turn back.
     ///
-    /// The seat holds the turn, has seen all others parked, and has a `Gathered` out, in which the i-th parcel
-    /// belongs to thread i. It answers the parcel at the own place, and the empty list, which still has room for all
-    /// parcels. It takes no memory and does not wait.
+    /// The seat holds the turn, has seen all others parked, and has a `Gathered` out, in which the
+    /// i-th parcel belongs to thread i. It answers the parcel at the own place, and the empty list,
+    /// which still has room for all parcels. It takes no memory and does not wait.
     pub fn release(&self, seat: &mut StopSeat<P>, gathered: Gathered<P>) -> (P, Vec<P>)
         requires seat { IsSeatOf seat.old self.now }
         requires holder { ((view_of seat.old).place ≡ Place.Holding) × SeenAll (view_of seat.old) (threads_of self.now) }
@@ -241,7 +247,8 @@ impl<P> Gathered<P> {
     ghost use Rattle.std.specs.Borrow.{sem};
     ghost use Rattle.stop_words.specs.Lending.{LendsParcels};
 
-    /// The parcels, the i-th that of thread i. The thread that gathered them may change them in place.
+    /// The parcels, the i-th that of thread i. The thread that gathered them may change them in
+    /// place.
     pub fn parcels(&mut self) -> &mut [P]
         ensures* writes_back { sem 𝓛 (LendsParcels P.row self.entry result) }
         ensures value { result.now ≡ self.old.parcels.items }

@@ -190,8 +190,9 @@ impl<P: Owned> StopWords<P> {
 
     /// Looks whether another thread, to which a stop was posted, has parked.
     ///
-    /// It is one load of the other thread's word. It takes no memory and does not wait. From a look that found the
-    /// thread parked until its stop is taken back the thread stays parked, and its parcel is with the holder.
+    /// It is one load of the other thread's word. It takes no memory and does not wait. From a look
+    /// that found the thread parked until its stop is taken back the thread stays parked, and its
+    /// parcel is with the holder.
     pub fn look(&self, seat: &mut StopSeat<P>, other: u32) -> bool
         requires seat { IsSeatOf seat.old self.now }
         requires place { (view_of seat.old).place ≡ Place.Holding }

@@ -87,8 +87,8 @@ impl<P: Owned> StopWords<P> {
 
     /// The stop words of as many threads as there are parcels, and the seat of each thread.
     ///
-    /// There is at least one parcel, there are fewer than 2^32, and the i-th belongs to thread i. Each thread is
-    /// parked, with its parcel in its slot. Refuses only for want of memory.
+    /// There is at least one parcel, there are fewer than 2^32, and the i-th belongs to thread i.
+    /// Each thread is parked, with its parcel in its slot. Refuses only for want of memory.
     pub fn new(
         alloc: Global,
         parcels: Vec<P>,
@@ -187,7 +187,8 @@ impl<P: Owned> StopWords<P> {
         }
     }
 
-    /// Takes the parcels out of the slots, by ascending thread, and ends the stop words. It takes no memory.
+    /// Takes the parcels out of the slots, by ascending thread, and ends the stop words. It takes
+    /// no memory.
     ///
     /// `into` is empty, with room for one parcel for each thread.
     pub fn close(self, mut into: Vec<P>) -> Vec<P>

@@ -5,7 +5,8 @@ use std::collections::LinkedList;
 /// Where a thread is.
 #[derive(Clone, Copy, Debug, PartialEq, Eq)]
 pub enum Place {
-    /// It has parked, or has not begun. Its parcel lies in its slot, or is with the holder of the turn.
+    /// It has parked, or has not begun. Its parcel lies in its slot, or is with the holder of the
+    /// turn.
     Parked,
     /// It runs, and is in no section.
     Outside,
@@ -15,7 +16,8 @@ pub enum Place {
     Holding,
 }
 
-/// What a seat knows. In contracts each number is a natural number, so the count of steps has no last value.
+/// What a seat knows. In contracts each number is a natural number, so the count of steps has no
+/// last value.
 pub struct View {
     /// The number of the thread.
     pub thread: u64,
@@ -33,4 +35,6 @@ pub struct View {
     pub word: u64,
     /// What stood in that word.
     pub found: u64,
+    /// What the step left in it.
+    pub left: u64,
 }

@@ -1,5 +1,5 @@
-//! A worker over the public calls alone, for the tests. No function here takes a handle, so none of the calls waits
-//! or takes a lock.
+//! A worker over the public calls alone, for the tests. No function here takes a handle, so none of
+//! the calls waits or takes a lock.
 ghost use Rattle.std.specs.Prelude.{◌≡◌, ◌≤◌, true, false, [], vec_capacity, IfOk, IfErr, MatchOption, MatchResult};
 ghost use Rattle.stop_words.specs.Places.{is_in};
 ghost use Rattle.stop_words.specs.Views.{PostedToAll};
@@ -64,7 +64,8 @@ pub fn collect<P: Owned>(
     Ok(words.release(seat, gathered))
 }
 
-/// A parked thread runs a section and then tries to stop all others. It ends parked, or holding the turn.
+/// A parked thread runs a section and then tries to stop all others. It ends parked, or holding the
+/// turn.
 pub fn work<P: Owned>(
     words: &StopWords<P>,
     seat: &mut StopSeat<P>,

@@ -4,9 +4,8 @@
 
 mod prefilled;
 mod space;
+#[cfg(test)]
+mod tests;
 
 pub use prefilled::Prefilled;
 pub use space::Space;
-
-#[cfg(test)]
-mod tests;

@@ -9,10 +9,11 @@ use Rattle.heap_terms.specs.declared.pages.Next.TheVariants as nexts
 use Rattle.heap_terms.specs.Histories.{command_at, after}
 use Rattle.heap_terms.specs.Regions.{place_for, with_fill}
 use Rattle.heap_terms.specs.Heap.{entry_at, thread_at}
-use Rattle.heap_terms.specs.Words.{word_of}
+use Rattle.heap_terms.specs.Spelling.{word_of}
 use Rattle.heap_terms.specs.Cells.{cell_value}
-use Rattle.heap_terms.proofs.Scripts.{script_built}
-use Rattle.lisp_heap.specs.Parcels.{with_accepted}
+use Rattle.heap_laws.proofs.ValidScripts.{script_built}
+use Rattle.lisp_heap.specs.ParcelView.{with_accepted}
+use Rattle.lisp_heap.specs.Sound.{IsSound}
 use Rattle.lisp_heap.specs.View.{View, heap_of, next_of}
 use Rattle.lisp_heap.specs.declared.world.World.TheInside.{Inside}
 use Rattle.lisp_heap.proofs.Soundness.{heap, states_length, cells_room}
@@ -144,17 +145,6 @@ set_fill-requires-clause-most c =
     let place = subst (λ (w : View). c.args.index ≡ place_for (heap_of w) c.args.t kinds.Cons 2) (sym c.self.view_is) c.requires.place in
     fill_room s c.self.invariant c.args.t c.in-NewCons.d c.in-NewCons.a c.in-NewCons.b c.args.index lt at builds place
 
-pub tag-requires : goal.tag-requires
-tag-requires c =
-    let s = c.self.inside in
-    let lt = thread_in s c.args.self.now c.self.view_is c.args.t c.requires.thread in
-    let at : command_at s.program (heap s) c.args.t ≡ Some (commands.NewCons c.in-NewCons.d c.in-NewCons.a c.in-NewCons.b) =
-    subst (λ (w : View). command_at w.program (heap_of w) c.args.t ≡ Some (commands.NewCons c.in-NewCons.d c.in-NewCons.a c.in-NewCons.b)) (sym c.self.view_is)
-    (sym c.command.ensures ∙ c.in-NewCons.ensures) in
-    let builds = subst (λ (w : View). next_of w c.args.t ≡ nexts.Build kinds.Cons 2 0) (sym c.self.view_is) c.requires.builds in
-    let place = subst (λ (w : View). c.args.index ≡ place_for (heap_of w) c.args.t kinds.Cons 2) (sym c.self.view_is) c.requires.place in
-    omega (arith, index_below s c.self.invariant c.args.t c.in-NewCons.d c.in-NewCons.a c.in-NewCons.b c.args.index lt at builds place)
-
 pub write-requires-3-clause-cell : goal.write-requires-3-clause-cell
 write-requires-3-clause-cell c =
     let s = c.self.inside in
@@ -166,27 +156,9 @@ write-requires-3-clause-cell c =
     let place = subst (λ (w : View). c.args.index ≡ place_for (heap_of w) c.args.t kinds.Cons 2) (sym c.self.view_is) c.requires.place in
     (are_cells s c.self.invariant c.args.t c.in-NewCons.d c.in-NewCons.a c.in-NewCons.b c.args.index lt at builds place).0
 
-pub write-requires-3-clause-stack : goal.write-requires-3-clause-stack
-write-requires-3-clause-stack c =
-    let s = c.self.inside in
-    let lt = thread_in s c.args.self.now c.self.view_is c.args.t c.requires.thread in
-    let at : command_at s.program (heap s) c.args.t ≡ Some (commands.NewCons c.in-NewCons.d c.in-NewCons.a c.in-NewCons.b) =
-    subst (λ (w : View). command_at w.program (heap_of w) c.args.t ≡ Some (commands.NewCons c.in-NewCons.d c.in-NewCons.a c.in-NewCons.b)) (sym c.self.view_is)
-    (sym c.command.ensures ∙ c.in-NewCons.ensures) in
-    let builds = subst (λ (w : View). next_of w c.args.t ≡ nexts.Build kinds.Cons 2 0) (sym c.self.view_is) c.requires.builds in
-    let place = subst (λ (w : View). c.args.index ≡ place_for (heap_of w) c.args.t kinds.Cons 2) (sym c.self.view_is) c.requires.place in
-    (cells_room s c.args.t c.self.invariant lt).0
-
-pub write-requires-3-clause-exact : goal.write-requires-3-clause-exact
-write-requires-3-clause-exact c =
-    let s = c.self.inside in
-    let lt = thread_in s c.args.self.now c.self.view_is c.args.t c.requires.thread in
-    let at : command_at s.program (heap s) c.args.t ≡ Some (commands.NewCons c.in-NewCons.d c.in-NewCons.a c.in-NewCons.b) =
-    subst (λ (w : View). command_at w.program (heap_of w) c.args.t ≡ Some (commands.NewCons c.in-NewCons.d c.in-NewCons.a c.in-NewCons.b)) (sym c.self.view_is)
-    (sym c.command.ensures ∙ c.in-NewCons.ensures) in
-    let builds = subst (λ (w : View). next_of w c.args.t ≡ nexts.Build kinds.Cons 2 0) (sym c.self.view_is) c.requires.builds in
-    let place = subst (λ (w : View). c.args.index ≡ place_for (heap_of w) c.args.t kinds.Cons 2) (sym c.self.view_is) c.requires.place in
-    (cells_room s c.args.t c.self.invariant lt).1
+pub write-requires-3-clause-room : goal.write-requires-3-clause-room
+write-requires-3-clause-room c =
+    cells_room c.self.inside c.args.t c.self.invariant (thread_in c.self.inside c.args.self.now c.self.view_is c.args.t c.requires.thread)
 
 pub overflow_add-self : goal.overflow_add-self
 overflow_add-self c =
@@ -221,8 +193,22 @@ advance-requires-clause-room c =
     let place = subst (λ (w : View). c.args.index ≡ place_for (heap_of w) c.args.t kinds.Cons 2) (sym c.self.view_is) c.requires.place in
     state_room s c.self.invariant c.args.t (commands.NewCons c.in-NewCons.d c.in-NewCons.a c.in-NewCons.b) lt at
 
-pub invariant_of-self-2 : goal.invariant_of-self-2
-invariant_of-self-2 c =
+-- the fields after the call
+abbrev made : goal.After-advance → Inside
+made c = record {
+  alloc = c.self.inside.alloc;
+  program = c.self.inside.program;
+  space = c.write-2.new.self;
+  pages = c.set_fill.new.self;
+  labels = c.set.new.self;
+  cells = c.write-3.new.self;
+  states = c.advance.new.self;
+  commits = c.self.inside.commits + 1;
+  history = c.push.new.self;
+}
+
+sound_made : (c : goal.After-advance) → IsSound (made c)
+sound_made c =
     let s = c.self.inside in
     let lt = thread_in s c.args.self.now c.self.view_is c.args.t c.requires.thread in
     let at : command_at s.program (heap s) c.args.t ≡ Some (commands.NewCons c.in-NewCons.d c.in-NewCons.a c.in-NewCons.b) =
@@ -233,16 +219,6 @@ invariant_of-self-2 c =
     let e = Did c.args.t (commands.NewCons c.in-NewCons.d c.in-NewCons.a c.in-NewCons.b) (answers.Placed (length (heap s).objects) c.args.index) in
     let same_event : c.push.new.self.items ≡ s.history.items ++ e ∷ [] =
     c.in_ok-push.ensures.items ∙ ap (λ (n : ℕ). s.history.items ++ Did c.args.t (commands.NewCons c.in-NewCons.d c.in-NewCons.a c.in-NewCons.b) (answers.Placed n c.args.index) ∷ []) c.self.invariant.holds.commits in
-    let now : Inside = record {
-      program = s.program;
-      space = c.write-2.new.self;
-      pages = c.set_fill.new.self;
-      labels = c.set.new.self;
-      cells = c.write-3.new.self;
-      states = c.advance.new.states;
-      commits = s.commits + 1;
-      history = c.push.new.self;
-    } in
     let first : c.cell-first.result ≡ word_of (heap s).objects (cell_value (heap s) c.args.t c.in-NewCons.a) =
     subst (λ (w : View). c.cell-first.result ≡ word_of (heap_of w).objects (cell_value (heap_of w) c.args.t c.in-NewCons.a)) (sym c.self.view_is) c.cell-first.ensures in
     let second : c.cell-second.result ≡ word_of (heap s).objects (cell_value (heap s) c.args.t c.in-NewCons.b) =
@@ -262,7 +238,7 @@ invariant_of-self-2 c =
       pages = c.set_fill.new.self;
       labels = c.set.new.self;
       cells = c.write-3.new.self;
-      states = c.advance.new.states;
+      states = c.advance.new.self;
       commits = s.commits + 1;
     })
     (w1 ∙ ap (λ (ws : List ℕ). slice_set ws (c.args.index + 1) c.cell-second.result) w2
@@ -273,7 +249,10 @@ invariant_of-self-2 c =
     (c.write-3.ensures ∙ ap (λ (v : ℕ). with_cell_word s.cells c.args.t c.in-NewCons.d v) c.tag.ensures)
     c.advance.ensures refl
     (placed_holds s c.self.invariant c.args.t c.in-NewCons.d c.in-NewCons.a c.in-NewCons.b c.args.index lt at builds place) in
-    sound_after s now e c.self.invariant refl same_event (placed_next s c.self.invariant c.args.t c.in-NewCons.d c.in-NewCons.a c.in-NewCons.b c.args.index lt at builds place) held
+    sound_after s (made c) e c.self.invariant refl same_event (placed_next s c.self.invariant c.args.t c.in-NewCons.d c.in-NewCons.a c.in-NewCons.b c.args.index lt at builds place) held
+
+pub invariant_of-self-2 : goal.invariant_of-self-2
+invariant_of-self-2 c = sound_made c
 
 pub returns-clause-ok : goal.returns-clause-ok
 returns-clause-ok c =
@@ -287,17 +266,7 @@ returns-clause-ok c =
     let e = Did c.args.t (commands.NewCons c.in-NewCons.d c.in-NewCons.a c.in-NewCons.b) (answers.Placed (length (heap s).objects) c.args.index) in
     let same_event : c.push.new.self.items ≡ s.history.items ++ e ∷ [] =
     c.in_ok-push.ensures.items ∙ ap (λ (n : ℕ). s.history.items ++ Did c.args.t (commands.NewCons c.in-NewCons.d c.in-NewCons.a c.in-NewCons.b) (answers.Placed n c.args.index) ∷ []) c.self.invariant.holds.commits in
-    let now : Inside = record {
-      program = s.program;
-      space = c.write-2.new.self;
-      pages = c.set_fill.new.self;
-      labels = c.set.new.self;
-      cells = c.write-3.new.self;
-      states = c.advance.new.states;
-      commits = s.commits + 1;
-      history = c.push.new.self;
-    } in
-    happens_after s now c.args.self.now c.args.t e c.self.view_is refl same_event refl (placed_next s c.self.invariant c.args.t c.in-NewCons.d c.in-NewCons.a c.in-NewCons.b c.args.index lt at builds place)
+    happens_after s (made c) c.args.self.now c.args.t e c.self.view_is refl same_event refl (placed_next s c.self.invariant c.args.t c.in-NewCons.d c.in-NewCons.a c.in-NewCons.b c.args.index lt at builds place) (sound_made c)
 
 pub returns-clause-agrees : goal.returns-clause-agrees
 returns-clause-agrees c = λ q owner. (
@@ -311,17 +280,7 @@ returns-clause-agrees c = λ q owner. (
     let e = Did c.args.t (commands.NewCons c.in-NewCons.d c.in-NewCons.a c.in-NewCons.b) (answers.Placed (length (heap s).objects) c.args.index) in
     let same_event : c.push.new.self.items ≡ s.history.items ++ e ∷ [] =
     c.in_ok-push.ensures.items ∙ ap (λ (n : ℕ). s.history.items ++ Did c.args.t (commands.NewCons c.in-NewCons.d c.in-NewCons.a c.in-NewCons.b) (answers.Placed n c.args.index) ∷ []) c.self.invariant.holds.commits in
-    let now : Inside = record {
-      program = s.program;
-      space = c.write-2.new.self;
-      pages = c.set_fill.new.self;
-      labels = c.set.new.self;
-      cells = c.write-3.new.self;
-      states = c.advance.new.states;
-      commits = s.commits + 1;
-      history = c.push.new.self;
-    } in
-    agrees_after s now c.args.self.now e q (with_accepted q) c.self.view_is refl same_event (placed_agrees s c.self.invariant c.args.t c.in-NewCons.d c.in-NewCons.a c.in-NewCons.b c.args.index lt at builds place q owner))
+    agrees_after s (made c) c.args.self.now e q (with_accepted q) c.self.view_is refl same_event (placed_agrees s c.self.invariant c.args.t c.in-NewCons.d c.in-NewCons.a c.in-NewCons.b c.args.index lt at builds place q owner))
 
 pub returns-clause-others : goal.returns-clause-others
 returns-clause-others c = λ q other. (
@@ -335,14 +294,4 @@ returns-clause-others c = λ q other. (
     let e = Did c.args.t (commands.NewCons c.in-NewCons.d c.in-NewCons.a c.in-NewCons.b) (answers.Placed (length (heap s).objects) c.args.index) in
     let same_event : c.push.new.self.items ≡ s.history.items ++ e ∷ [] =
     c.in_ok-push.ensures.items ∙ ap (λ (n : ℕ). s.history.items ++ Did c.args.t (commands.NewCons c.in-NewCons.d c.in-NewCons.a c.in-NewCons.b) (answers.Placed n c.args.index) ∷ []) c.self.invariant.holds.commits in
-    let now : Inside = record {
-      program = s.program;
-      space = c.write-2.new.self;
-      pages = c.set_fill.new.self;
-      labels = c.set.new.self;
-      cells = c.write-3.new.self;
-      states = c.advance.new.states;
-      commits = s.commits + 1;
-      history = c.push.new.self;
-    } in
-    agrees_after s now c.args.self.now e q q c.self.view_is refl same_event (placed_others s c.self.invariant c.args.t c.in-NewCons.d c.in-NewCons.a c.in-NewCons.b c.args.index lt at builds place q other))
+    agrees_after s (made c) c.args.self.now e q q c.self.view_is refl same_event (placed_others s c.self.invariant c.args.t c.in-NewCons.d c.in-NewCons.a c.in-NewCons.b c.args.index lt at builds place q other))

@@ -1,6 +1,6 @@
 use Rattle.std.proofs.Common.{◌≡◌, ℕ, ◌<◌, length, subst, sym, ap, ◌∙◌}
 use Rattle.lisp_heap.specs.Agreement.{OthersAgree}
-use Rattle.lisp_heap.specs.Parcels.{ParcelView}
+use Rattle.lisp_heap.specs.ParcelView.{ParcelView}
 use Rattle.lisp_heap.specs.View.{View, heap_of}
 use Rattle.replay_core.proofs.Ready.{ready_after, turn-program}
 use Rattle.replay_core.proofs.machine.Machine.turn.Goals as goal

@@ -1,0 +1,121 @@
+-- An event leaves what every other thread does next.
+use Rattle.std.proofs.Common.{◌≡◌, ◌≢◌, ℕ, ◌+◌, List, Option, Some, None, Bool, true, false, inl, inr, refl, sym, ◌∙◌, subst, ap, arith}
+use Rattle.std.proofs.lemmas.List.{get_or-set_other}
+use Rattle.std.specs.Prelude.{slice_get, if◌then◌else◌, ◌==◌}
+use Rattle.heap_terms.specs.declared.commands.Command.{Command}
+use Rattle.heap_terms.specs.declared.events.Event.{Event}
+use Rattle.heap_terms.specs.declared.kinds.Kind.{Kind}
+use Rattle.heap_terms.specs.declared.kinds.PageType.{PageType}
+use Rattle.heap_terms.specs.declared.pages.Entry.{Entry}
+use Rattle.heap_terms.specs.declared.pages.Entry.TheVariants.{Free, Used}
+use Rattle.heap_terms.specs.declared.pages.Next.{Next}
+use Rattle.heap_terms.specs.declared.pages.Next.TheVariants as nexts
+use Rattle.heap_terms.specs.declared.programs.Program.{Program}
+use Rattle.heap_terms.specs.Heap.{NamedHeap, thread_at, with_thread, ended_thread, entry_at, open_page}
+use Rattle.heap_terms.specs.Histories.{IsNext, after, advance, command_at, script_of, thread_of, next, next_for, next_command, next_unless_due}
+use Rattle.heap_terms.specs.Layout.{page_type_of, size_of}
+use Rattle.heap_terms.specs.Regions.{Wish, Nothing, Make, wish_of, is_small, has_room, page_has_room, run_has_room, opened, IsFreeRun}
+use Rattle.heap_terms.specs.Simple.{effect_of}
+use Rattle.heap_terms.specs.Valid.{IsValid}
+use Rattle.heap_terms.specs.WellFormed.{IsWellFormed, IsOpenRun, IsOpenRunPage}
+use Rattle.heap_laws.proofs.Events.Causes.{by_events}
+use Rattle.heap_laws.proofs.Events.OwnThread.{built_heap, builds_page}
+use Rattle.heap_laws.proofs.WellFormed.RegionOpened.{run_cases, open_run_taken}
+use Rattle.heap_laws.proofs.Events.Tasks.{IsSameTask, effect-board}
+use Rattle.heap_laws.proofs.WellFormed.Threads.{open_page_used, open_run_used}
+
+-- the entries of a thread's open pages and of its open run are the same
+pub record HasSameEntries (a b : NamedHeap) (u : ℕ) : Type 0 where
+  pub pages : (ty : PageType) (page : ℕ) → open_page (thread_at a u) ty ≡ Some page → entry_at b.pages page ≡ entry_at a.pages page
+  pub run : (page : ℕ) → (thread_at a u).open_run ≡ Some page → entry_at b.pages page ≡ entry_at a.pages page
+
+pub same_pages_entries : (a b : NamedHeap) (u : ℕ) → b.pages ≡ a.pages → HasSameEntries a b u
+same_pages_entries a b u e = record { pages = λ ty page h. rw e refl; run = λ page h. rw e refl }
+
+pub page_room_same : (old new : List Entry) (o o' : Option ℕ) (size : ℕ) → o' ≡ o → ((page : ℕ) → o ≡ Some page → entry_at new page ≡ entry_at old page) →
+    page_has_room new o' size ≡ page_has_room old o size
+page_room_same old new None o' size e h = rw e refl
+page_room_same old new (Some page) o' size e h = rw (e, h page refl) refl
+
+pub run_room_same : (old new : List Entry) (o o' : Option ℕ) (size : ℕ) → o' ≡ o → ((page : ℕ) → o ≡ Some page → entry_at new page ≡ entry_at old page) →
+    run_has_room new o' size ≡ run_has_room old o size
+run_room_same old new None o' size e h = rw e refl
+run_room_same old new (Some page) o' size e h = rw (e, h page refl) refl
+
+pub room_same : (a b : NamedHeap) (u : ℕ) (kind : Kind) (size : ℕ) → IsSameTask (thread_at a u) (thread_at b u) → HasSameEntries a b u →
+    has_room b u kind size ≡ has_room a u kind size
+room_same a b u kind size task entries =
+    let ty = page_type_of kind in
+    let pages = page_room_same a.pages b.pages (open_page (thread_at a u) ty) (open_page (thread_at b u) ty) size (task.pages ty) (entries.pages ty) in
+    let run = run_room_same a.pages b.pages (thread_at a u).open_run (thread_at b u).open_run size task.run entries.run in
+    go (is_small size) pages run
+  where
+    go : (small : Bool) {x x' y y' : Bool} → x' ≡ x → y' ≡ y → (if small then x' else y') ≡ (if small then x else y)
+    go true e f = e
+    go false e f = f
+
+pub wish_same : (a b : NamedHeap) (u : ℕ) (w : Wish) → IsSameTask (thread_at a u) (thread_at b u) → HasSameEntries a b u → next_for b u w ≡ next_for a u w
+wish_same a b u Nothing task entries = refl
+wish_same a b u (Make kind n seed) task entries =
+    ap (λ (room : Bool). if room then nexts.Build kind n seed else nexts.Open) (room_same a b u kind (size_of kind n) task entries)
+
+pub command_same : (a b : NamedHeap) (u : ℕ) (o : Option Command) → IsSameTask (thread_at a u) (thread_at b u) → HasSameEntries a b u →
+    next_command b u o ≡ next_command a u o
+command_same a b u None task entries = refl
+command_same a b u (Some c) task entries = wish_same a b u (wish_of c) task entries
+
+-- what a thread does next goes by its task and the entries of its regions alone
+pub next_same : (p : Program) (a b : NamedHeap) (u : ℕ) → IsSameTask (thread_at a u) (thread_at b u) → HasSameEntries a b u → next p b u ≡ next p a u
+unfolding next
+next_same p a b u task entries =
+    let command : next_command b u (command_at p b u) ≡ next_command a u (command_at p a u) =
+    ap (λ (i : ℕ). next_command b u (slice_get (script_of p u) i)) task.done ∙ command_same a b u (command_at p a u) task entries in
+    go task.ended task.inhibits task.owed command
+  where
+    go : {e e' : Bool} {i i' : ℕ} {o o' : Option ℕ} {n n' : Next} → e' ≡ e → i' ≡ i → o' ≡ o → n' ≡ n →
+        (if e' then nexts.Done else next_unless_due (if i' == 0 then o' else None) n') ≡ (if e then nexts.Done else next_unless_due (if i == 0 then o else None) n)
+    go e i o n = rw (e, i, o, n) refl
+
+pub opened_entries : (p : Program) (a : NamedHeap) (t : ℕ) (ty : PageType) (first k u : ℕ) → IsWellFormed p a → IsFreeRun a.pages first k →
+    HasSameEntries a (opened a t ty first k) u
+unfolding opened
+opened_entries p a t ty first k u w run = record {
+  pages = λ other x e. elim (run_cases a.pages first k ty x run) [
+    | inl same ↦ same
+    | inr taken ↦ absurd (rw taken.3 at (open_page_used p a u other x w e))
+  ];
+  run = λ x e. elim (run_cases a.pages first k ty x run) [
+    | inl same ↦ same
+    | inr taken ↦ absurd (open_run_taken a.pages x (open_run_used p a u x w e) taken.3)
+  ];
+}
+
+-- every event leaves the entries of the other threads' regions
+pub others_entries : (p : Program) (a : NamedHeap) (e : Event) → IsValid p → IsWellFormed p a → IsNext p a e → (u : ℕ) → u ≢ thread_of e →
+    HasSameEntries a (after p a e) u
+others_entries p a e valid w next = by_events p a (λ e b. (u : ℕ) → u ≢ thread_of e → HasSameEntries a b u)
+    (λ t c answer d u other. same_pages_entries a (advance (effect_of a t c) t) u (effect-board a t c).pages)
+    (λ t c answer d u other. same_pages_entries a (advance a t) u refl)
+    (λ t c answer kind n seed d u other.
+    let page = builds_page p a t c kind n seed valid w d.command d.wish d.room in
+    let h = page.1 in
+    let built = built_heap p a t c kind n valid.auto page.0 h in
+    record {
+      pages = λ ty x e. rw built.pages (get_or-set_other a.pages h.page x _ Free
+          (λ same. other (w.own_pages u t ty (page_type_of kind) x e (h.open_is ∙ ap {B = Option ℕ} (λ (y : ℕ). Some y) (sym same))).0));
+      run = λ x e. rw built.pages (get_or-set_other a.pages h.page x _ Free
+          (λ same. no_run a.pages x (page_type_of kind) h.fill h.page (open_run_used p a u x w e) (ap (λ (y : ℕ). entry_at a.pages y) same ∙ h.entry)));
+    })
+    (λ t ty first k d u other. opened_entries p a t ty first k u w d.lowest.run)
+    (λ t d u other. same_pages_entries a (with_thread a t (ended_thread (thread_at a t))) u refl)
+    e next
+  where
+    no_run : (pages : List Entry) (x : ℕ) (ty : PageType) (fill first : ℕ) → IsOpenRun pages x → entry_at pages x ≡ Used ty 0 fill first 1 → ⊥
+    no_run pages x ty fill first run e =
+        let two = run.long in
+        let page : IsOpenRunPage x run.k (entry_at pages (x + 0)) = run.each 0 (omega arith) in
+        let same : x + 0 ≡ x = omega arith in
+        let page' : IsOpenRunPage x run.k (entry_at pages x) = subst (λ (y : ℕ). IsOpenRunPage x run.k (entry_at pages y)) same page in
+        let used : IsOpenRunPage x run.k (Used ty 0 fill first 1) = rw e at page' in
+        let one = used.3 in
+        omega arith

@@ -1,0 +1,2 @@
+-- Programs that a script can be read as.
+pub mod BuiltCommands

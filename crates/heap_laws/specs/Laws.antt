@@ -1,0 +1,73 @@
+-- Laws of the definitions, each for every program: what a reader may rely on beside the definitions themselves.
+use Rattle.std.specs.Prelude.{◌≡◌, ◌↔◌, ℕ, ◌+◌, ◌<◌, ◌≤◌, List, [], ◌∷◌, ◌++◌, length, map, All, IfSome, false}
+use Rattle.heap_terms.specs.declared.events.Event.{Event}
+use Rattle.heap_terms.specs.declared.kinds.Kind.TheVariants as kinds
+use Rattle.heap_terms.specs.declared.pages.Next.TheVariants as nexts
+use Rattle.heap_terms.specs.declared.programs.Program.{Program}
+use Rattle.heap_terms.specs.declared.limits.TheConstants.{MOST_COMMANDS}
+use Rattle.heap_terms.specs.Complete.{IsComplete}
+use Rattle.heap_terms.specs.Heap.{NamedHeap, object_at, thread_at}
+use Rattle.heap_terms.specs.Histories.{IsNext, after, next, Lawful, LawfulFrom, replay, replay_from, thread_of, script_of}
+use Rattle.heap_laws.specs.Remaining.{all_left, most_events}
+use Rattle.heap_terms.specs.Objects.{kind_of}
+use Rattle.heap_laws.specs.Order.{commands_of, events_of, EndsOnce}
+use Rattle.heap_laws.specs.Plain.{IsPlain}
+use Rattle.heap_laws.specs.HeapRuns.{IsRunOf}
+use Rattle.heap_terms.specs.Valid.{IsValid}
+use Rattle.heap_terms.specs.WellFormed.{IsWellFormed}
+
+-- a lawful history and an event that may come next make a lawful history, whose heap is the one after the event
+abbrev pub HistoriesGrow : Type 0
+HistoriesGrow = (p : Program) (h : List Event) (e : Event) → Lawful p h → IsNext p (replay p h) e →
+    Lawful p (h ++ e ∷ []) × (replay p (h ++ e ∷ []) ≡ after p (replay p h) e)
+
+-- every lawful history of a valid program leaves a well-formed heap
+abbrev pub HeapsAreWellFormed : Type 0
+HeapsAreWellFormed = (p : Program) (h : List Event) → IsValid p → Lawful p h → IsWellFormed p (replay p h)
+
+-- of at most 20,000 objects, all of them conses until more kinds are built
+abbrev pub HeapsAreSmall : Type 0
+HeapsAreSmall = (p : Program) (h : List Event) → IsValid p → Lawful p h →
+    (length (replay p h).objects ≤ MOST_COMMANDS)
+    × ((name : ℕ) → IfSome (object_at (replay p h).objects name) (λ o. kind_of o.contents ≡ kinds.Cons))
+
+-- no thread collects until collections are built
+abbrev pub NobodyCollects : Type 0
+NobodyCollects = (p : Program) (h : List Event) (t last : ℕ) → IsValid p → Lawful p h → ¬ (next p (replay p h) t ≡ nexts.Collect last)
+
+-- with each event there is less left, so that every history ends: it has at most 40,016 events
+abbrev pub HistoriesEnd : Type 0
+HistoriesEnd =
+    ((p : Program) (h : List Event) (e : Event) → IsValid p → Lawful p h → IsNext p (replay p h) e →
+    all_left p (after p (replay p h) e) + 1 ≤ all_left p (replay p h))
+    × ((p : Program) (h : List Event) → IsValid p → Lawful p h → length h ≤ most_events)
+
+-- a thread that has not ended has an event that may come next
+abbrev pub ThreadsGoOn : Type 0
+ThreadsGoOn = (p : Program) (h : List Event) (t : ℕ) → IsValid p → Lawful p h → (thread_at (replay p h) t).ended ≡ false →
+    (e : Event) × (thread_of e ≡ t) × IsNext p (replay p h) e
+
+-- so that every history is the beginning of a complete one
+abbrev pub HistoriesComplete : Type 0
+HistoriesComplete = (p : Program) (h : List Event) → IsValid p → Lawful p h → (more : List Event) × IsComplete p (h ++ more)
+
+-- runs as a relation are the lawful lists of events, with the heap that they replay to
+abbrev pub RunsAreLawful : Type 0
+RunsAreLawful = (p : Program) (a : NamedHeap) (h : List Event) (b : NamedHeap) →
+    IsRunOf p a h b ↔ (LawfulFrom p a h × (b ≡ replay_from p a h))
+
+-- in a complete history each thread does the commands of its script once and in order, and its last event is its
+-- only end
+abbrev pub ScriptsAreDone : Type 0
+ScriptsAreDone = (p : Program) (h : List Event) (t : ℕ) → IsValid p → IsComplete p h → t < length p.threads →
+    (commands_of t h ≡ script_of p t) × EndsOnce t (events_of t h)
+
+-- every event of a lawful history of a valid program is plain
+abbrev pub EventsArePlain : Type 0
+EventsArePlain = (p : Program) (h : List Event) → IsValid p → Lawful p h → All IsPlain h
+
+-- what a thread may do next is one event, so that the order of the threads determines a history
+abbrev pub OrderDetermines : Type 0
+OrderDetermines =
+    ((p : Program) (a : NamedHeap) (e f : Event) → IsNext p a e → IsNext p a f → thread_of e ≡ thread_of f → e ≡ f)
+    × ((p : Program) (h g : List Event) → Lawful p h → Lawful p g → map thread_of h ≡ map thread_of g → h ≡ g)

@@ -1,0 +1,6 @@
+pub mod Remaining
+pub mod HeapRuns
+pub mod Order
+pub mod Plain
+pub mod Laws
+pub mod WordLaws

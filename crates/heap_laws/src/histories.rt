@@ -1,0 +1,48 @@
+//! Laws of lawful histories.
+
+ghost use Rattle.heap_laws.specs.Laws.{HistoriesGrow, HistoriesEnd, ThreadsGoOn, HistoriesComplete, RunsAreLawful, ScriptsAreDone, EventsArePlain, OrderDetermines};
+
+/// An event that may come next makes a lawful history one longer, and the heap at its end is the
+/// one after that event.
+pub fn histories_grow()
+    ensures { HistoriesGrow }
+{}
+
+/// Each event leaves fewer to come, and no history of a valid program has more than 40,016.
+pub fn histories_end()
+    ensures { HistoriesEnd }
+{}
+
+/// A thread of a valid program that has not ended has an event that may come next, whatever was
+/// done before.
+pub fn threads_go_on()
+    ensures { ThreadsGoOn }
+{}
+
+/// Every lawful history of a valid program can be completed.
+pub fn histories_complete()
+    ensures { HistoriesComplete }
+{}
+
+/// A run with a heap after each event is a lawful list of events, and ends at the heap that the
+/// list replays to.
+pub fn runs_are_lawful()
+    ensures { RunsAreLawful }
+{}
+
+/// In a complete history each thread does its script once and in order, and then ends once.
+pub fn scripts_are_done()
+    ensures { ScriptsAreDone }
+{}
+
+/// Every event of a lawful history of a valid program has a command that is built, an answer that
+/// such a command gives, and numbers in their ranges.
+pub fn events_are_plain()
+    ensures { EventsArePlain }
+{}
+
+/// What a thread may do next is one event: two histories with the same threads in the same order
+/// are the same.
+pub fn order_determines()
+    ensures { OrderDetermines }
+{}
