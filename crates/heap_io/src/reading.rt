@@ -1,4 +1,5 @@
-// Reading a source to its end.
+//! Reading a source to its end.
+
 ghost use Rattle.std.specs.Prelude.{◌≡◌, ◌≢◌, ◌≤◌, ◌<◌, ◌-◌, ◌++◌, ℕ, List, [], length, take, vec_len, IfOk, IfErr, OnOk};
 ghost use Rattle.heap_io.specs.Streams.{Rose, Gave, GaveAll, GaveMore, GaveAtMost};
 ghost use Rattle.heap_io.specs.declared.reading.ReadFault.TheVariants.{Read, Memory};
@@ -37,15 +38,15 @@ impl From<AllocError> for ReadFault {
     }
 }
 
-// How many bytes one call asks for.
+/// How many bytes one call asks for.
 const PIECE: usize = 16_384;
 
-// How many bytes the input may have before the list of its bytes grows for the first time. What of it
-// is not used is not touched.
+/// How many bytes the input may have before the list of its bytes grows for the first time. What of
+/// it is not used is not touched.
 const FIRST_ROOM: usize = 262_144;
 
-/// Reads the source to the end of its input, at most `limit` bytes. The work is linear in the bytes.
-/// After an error some bytes were taken, and are lost.
+/// Reads the source to the end of its input, at most `limit` bytes. The work is linear in the
+/// bytes. After an error some bytes were taken, and are lost.
 pub fn read_all<S: Source>(alloc: Global, source: &mut S, limit: u64) -> Result<Vec<u8>, ReadFault>
     ensures whole { IfOk result (λ bytes.
         GaveAll (S.state source.old).contents (S.state source.new).contents bytes.items) }
@@ -64,14 +65,14 @@ pub fn read_all<S: Source>(alloc: Global, source: &mut S, limit: u64) -> Result<
     read_pieces(alloc, source, &mut piece, limit)
 }
 
-// That many bytes 0.
+/// That many bytes 0.
 fn zeroes(alloc: Global, count: usize) -> Result<Vec<u8>, AllocError>
     ensures { IfOk result (λ bytes. vec_len bytes ≡ count) }
 {
     vec![in alloc; 0u8; count]
 }
 
-// The same as `read_all`, piece by piece.
+/// The same as `read_all`, piece by piece.
 fn read_pieces<S: Source>(
     alloc: Global,
     source: &mut S,
@@ -95,7 +96,7 @@ fn read_pieces<S: Source>(
     Ok(bytes)
 }
 
-// Takes the next piece and appends it to the bytes. It answers how many bytes that were.
+/// Takes the next piece and appends it to the bytes. It answers how many bytes that were.
 fn take_piece<S: Source>(
     source: &mut S,
     piece: &mut [u8],

@@ -1,4 +1,5 @@
-// The two traits and their errors.
+//! The two traits and their errors.
+
 ghost use Rattle.std.specs.Prelude.{⊤, ◌≡◌, ◌≤◌, ◌<◌, ◌↔◌, ℕ, List, [], Some, length, take, IfOk, OnErr};
 ghost use Rattle.heap_io.specs.Streams.{Stream, Rose, Gave, Grew};
 
@@ -25,13 +26,13 @@ impl From<AllocError> for NoRoom {
 
 /// Where bytes come from.
 pub trait Source {
-    /// The bytes that were not yet taken, where the source tells them, and how often it has failed: a
-    /// `u64` that never falls, and stands still at its last number. A real stream tells no bytes.
+    /// The bytes that were not yet taken, where the source tells them, and how often it has failed:
+    /// a `u64` that never falls, and stands still at its last number. A real stream tells no bytes.
     ghost state: { Self → Stream };
 
-    /// Puts the next bytes of the input at the front of the buffer and answers how many, at least one
-    /// unless the input has ended. What stands behind them in the buffer is open, and so is the buffer
-    /// after a failure. A failure takes nothing.
+    /// Puts the next bytes of the input at the front of the buffer and answers how many, at least
+    /// one unless the input has ended. What stands behind them in the buffer is open, and so is the
+    /// buffer after a failure. A failure takes nothing.
     fn take(&mut self, buf: &mut [u8]) -> Result<usize, Failed>
         requires { 0 < length buf.old }
         ensures bound { IfOk result (λ k. k ≤ length buf.new) }
@@ -46,11 +47,12 @@ pub trait Source {
 
 /// Where bytes go.
 pub trait Sink {
-    /// The bytes that were appended so far, where the sink tells them, and how often it has failed: a
-    /// `u64` that never falls, and stands still at its last number. A real stream tells no bytes.
+    /// The bytes that were appended so far, where the sink tells them, and how often it has failed:
+    /// a `u64` that never falls, and stands still at its last number. A real stream tells no bytes.
     ghost state: { Self → Stream };
 
-    /// Appends the front of the piece and answers how many bytes, at least one. A failure appends nothing.
+    /// Appends the front of the piece and answers how many bytes, at least one. A failure appends
+    /// nothing.
     fn put(&mut self, piece: &[u8]) -> Result<usize, Failed>
         requires { 0 < length piece.now }
         ensures some { IfOk result (λ k. 0 < k) }

@@ -1,4 +1,5 @@
-// Writing bytes to a sink.
+//! Writing bytes to a sink.
+
 ghost use Rattle.std.specs.Prelude.{◌≡◌, ◌≤◌, ◌<◌, [], length, take, IfErr, OnErr, OnOk, IsOk};
 ghost use Rattle.heap_io.specs.Streams.{Rose, Grew};
 

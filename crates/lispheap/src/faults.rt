@@ -15,7 +15,8 @@ pub enum Fault {
     /// The words are no form that the program knows: status 2.
     #[error("usage")]
     Usage,
-    /// The input is no script. The number of the first bad line, from 1, and why it is bad: status 3.
+    /// The input is no script. The number of the first bad line, from 1, and why it is bad: status
+    /// 3.
     #[error("line {0}: {1:?}")]
     Line(u32, Why),
     /// The source failed: status 4.
@@ -80,7 +81,7 @@ pub fn say<E: Sink>(err: &mut E, fault: Fault) -> Result<(), Stopped>
     }
 }
 
-// Says that a line is bad.
+/// Says that a line is bad.
 fn say_line<E: Sink>(err: &mut E, n: u32, why: Why) -> Result<(), Stopped>
     ensures said { OnOk result (SaysAll (fault_text (Fault.Line n why))
         (change (E.state err.old) (E.state err.new))) }
@@ -92,7 +93,7 @@ fn say_line<E: Sink>(err: &mut E, n: u32, why: Why) -> Result<(), Stopped>
     say_number(err, n, why)
 }
 
-// Says the number of a bad line and why it is bad, and ends the line.
+/// Says the number of a bad line and why it is bad, and ends the line.
 fn say_number<E: Sink>(err: &mut E, n: u32, why: Why) -> Result<(), Stopped>
     ensures said { OnOk result (SaysAll (decimal n ++ (codes ": " ++ why_text why ++ codes "\n"))
         (change (E.state err.old) (E.state err.new))) }
@@ -105,7 +106,7 @@ fn say_number<E: Sink>(err: &mut E, n: u32, why: Why) -> Result<(), Stopped>
     say_why(err, why)
 }
 
-// Says why a line is bad, and ends the line.
+/// Says why a line is bad, and ends the line.
 fn say_why<E: Sink>(err: &mut E, why: Why) -> Result<(), Stopped>
     ensures said { OnOk result (SaysAll (codes ": " ++ why_text why ++ codes "\n")
         (change (E.state err.old) (E.state err.new))) }
@@ -123,7 +124,7 @@ fn say_why<E: Sink>(err: &mut E, why: Why) -> Result<(), Stopped>
     }
 }
 
-// Says that a limit is passed.
+/// Says that a limit is passed.
 fn say_limit<E: Sink>(err: &mut E, kind: LimitKind) -> Result<(), Stopped>
     ensures said { OnOk result (SaysAll (fault_text (Fault.Limit kind))
         (change (E.state err.old) (E.state err.new))) }

@@ -128,7 +128,8 @@ impl Reader {
         if collects && self.gcs >= MOST_GCS {
             return Err(LineFault::Over(LimitKind::Gcs));
         }
-        // Not reached, since a command stands behind a `thread` line: then there is no script to add it to.
+        // Not reached, since a command stands behind a `thread` line: then there is no script to
+        // add it to.
         if self.threads.is_empty() {
             self.place = Place::Thread;
             return Ok(());
