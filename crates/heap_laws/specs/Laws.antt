@@ -8,7 +8,7 @@ use Rattle.heap_terms.specs.declared.limits.TheConstants.{MOST_COMMANDS}
 use Rattle.heap_terms.specs.Complete.{IsComplete}
 use Rattle.heap_terms.specs.Heap.{NamedHeap, object_at, thread_at}
 use Rattle.heap_terms.specs.Histories.{IsNext, after, next, Lawful, LawfulFrom, replay, replay_from, thread_of, script_of}
-use Rattle.heap_laws.specs.Remaining.{all_left, most_events}
+use Rattle.heap_laws.specs.Remaining.{all_left, events_at_most, most_events}
 use Rattle.heap_terms.specs.Objects.{kind_of}
 use Rattle.heap_laws.specs.Order.{commands_of, events_of, EndsOnce}
 use Rattle.heap_laws.specs.Plain.{IsPlain}
@@ -35,12 +35,14 @@ HeapsAreSmall = (p : Program) (h : List Event) → IsValid p → Lawful p h →
 abbrev pub NobodyCollects : Type 0
 NobodyCollects = (p : Program) (h : List Event) (t last : ℕ) → IsValid p → Lawful p h → ¬ (next p (replay p h) t ≡ nexts.Collect last)
 
--- with each event there is less left, so that every history ends: it has at most 40,016 events
+-- with each event, collections too, there is less left, so that every history ends: it has at most so many events as follow
+-- from its program, and never more than 41,168
 abbrev pub HistoriesEnd : Type 0
 HistoriesEnd =
     ((p : Program) (h : List Event) (e : Event) → IsValid p → Lawful p h → IsNext p (replay p h) e →
     all_left p (after p (replay p h) e) + 1 ≤ all_left p (replay p h))
-    × ((p : Program) (h : List Event) → IsValid p → Lawful p h → length h ≤ most_events)
+    × ((p : Program) (h : List Event) → IsValid p → Lawful p h → length h ≤ events_at_most p)
+    × ((p : Program) → IsValid p → events_at_most p ≤ most_events)
 
 -- a thread that has not ended has an event that may come next
 abbrev pub ThreadsGoOn : Type 0
