@@ -67,7 +67,7 @@ after-owes p valid a e next w h = by_events p a (λ e b. OweNothing b)
     (λ t d. kept_at a t (ended_thread (thread_at a t)) h refl)
     e next
 
-start-owes : (p : Program) → OweNothing (start p)
+pub start-owes : (p : Program) → OweNothing (start p)
 start-owes p t = let s = start_thread p t in rw s.2 refl
 
 pub replay-owes : (p : Program) (h : List Event) → IsValid p → Lawful p h → OweNothing (replay p h)

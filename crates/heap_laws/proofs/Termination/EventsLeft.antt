@@ -368,3 +368,6 @@ events_few p valid =
     some : (b : Bool) → (if b then 0 else MOST_TRIGGERS) ≤ MOST_TRIGGERS
     some true = omega arith
     some false = omega arith
+
+pub history_few : (p : Program) (h : List Event) → IsValid p → Lawful p h → length h ≤ most_events
+history_few p h valid lawful = let own = history_short p h valid lawful in let most = events_few p valid in omega arith
