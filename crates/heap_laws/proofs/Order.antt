@@ -1,5 +1,6 @@
 -- The order of events.
 pub mod ScriptsInOrder
+pub mod PassesDetermined
 pub mod Determined
 pub mod RunsAsRelation
 pub mod OneRun

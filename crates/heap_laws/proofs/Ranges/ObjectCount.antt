@@ -54,9 +54,20 @@ start-counted p = record {
   few = (let empty = start_empty p in omega arith);
 }
 
-pub moved-counted : (p : Program) (a b : NamedHeap) (t n : ℕ) (ends : Bool) → IsCounted p a → IsWellFormed p b → t < length p.threads → n ≤ 1 →
-    HasMoved p a b t n ends → IsCounted p b
-moved-counted p a b t n ends h w l one m = record {
+-- an event is at most one command
+few_in : (e : Event) → commands_in e ≤ 1
+few_in (Did t c answer) = omega arith
+few_in (Opened t ty first k) = omega arith
+few_in (Collected t last passes) = omega arith
+few_in (Ended t) = omega arith
+
+pub moved-counted : (p : Program) (a b : NamedHeap) (event : Event) → IsCounted p a → IsWellFormed p b → thread_of event < length p.threads →
+    HasMoved p a b event → IsCounted p b
+moved-counted p a b event h w l m =
+    let t = thread_of event in
+    let n = commands_in event in
+    let one = few_in event in
+    record {
   formed = w;
   within = λ u. elim (cases_eq u t) [
     | inl same ↦ subst (λ (x : ℕ). (thread_at b x).done ≤ length (script_of p x)) (sym same)
@@ -90,16 +101,9 @@ event_thread p a e valid w next =
     let l = alive_thread a (thread_of e) (moves p a e valid w next).alive in
     let same = w.threads_length in omega arith
 
-pub few_in : (e : Event) → commands_in e ≤ 1
-few_in (Did t c answer) = omega arith
-few_in (Opened t ty first k) = omega arith
-few_in (Collected t last passes) = omega arith
-few_in (Ended t) = omega arith
-
 pub after-counted : (p : Program) → IsValid p → (a : NamedHeap) (e : Event) → IsNext p a e → IsCounted p a → IsCounted p (after p a e)
 after-counted p valid a e next h =
-    moved-counted p a (after p a e) (thread_of e) (commands_in e) (is_end e) h (after-well_formed p valid a e next h.formed)
-    (event_thread p a e valid h.formed next) (few_in e) (moves p a e valid h.formed next)
+    moved-counted p a (after p a e) e h (after-well_formed p valid a e next h.formed) (event_thread p a e valid h.formed next) (moves p a e valid h.formed next)
 
 pub replay-counted : (p : Program) (h : List Event) → IsValid p → Lawful p h → IsCounted p (replay p h)
 replay-counted p h valid lawful = kept_by_events p (λ a. IsCounted p a) (after-counted p valid) (start p) h (start-counted p) lawful
