@@ -1,24 +1,23 @@
 -- Tests that decide whether a record tells a pass over a heap of few objects.
-use Rattle.std.proofs.Common.{◌≡◌, ℕ, zero, suc, ◌+◌, ◌<◌, ◌≤◌, List, [], ◌∷◌, length, get_or, map, Option, Some, None, Bool, true, false, ◌⊎◌, inl, inr, refl, sym, ◌∙◌, subst, ap, arith}
-use Rattle.std.proofs.lemmas.Bool.{cases_lt, cases_eq, cases_Bool, or_cases, or_left, or_right, and_parts, and_from, ltb-true, lt-ltb, false≢true, eqb-true, eq-eqb, not-true, eqb-false}
+use Rattle.std.proofs.Common.{◌≡◌, ℕ, zero, suc, ◌<◌, List, [], ◌∷◌, length, get_or, map, Option, Some, None, Bool, true, false, inl, inr, refl, sym, ◌∙◌, subst, arith}
+use Rattle.std.proofs.lemmas.Bool.{cases_lt, cases_Bool, or_cases, and_parts, ltb-true, false≢true, eqb-true, not-true, eqb-false}
 use Rattle.std.proofs.lemmas.List.FromFn.{get_or-range_with_len, length-range_with_len, get_or-map-range_with_len, length-map-range_with_len}
 use Rattle.std.proofs.lemmas.List.Sums.{AllPass-from_list_all}
-use Rattle.std.proofs.lemmas.List.{get_or_past, get_or_default}
+use Rattle.std.proofs.lemmas.List.{get_or_past}
 use Rattle.std.specs.List.{list_any, list_all, range_with_len}
-use Rattle.std.specs.Prelude.{All, AllPairs, ◌&&◌, ◌||◌, not, ◌==◌, ◌≢◌, nat_lt, if◌then◌else◌}
+use Rattle.std.specs.Prelude.{All, AllPairs, ◌&&◌, ◌||◌, not, ◌==◌, ◌≢◌, nat_lt}
 use Rattle.heap_terms.specs.declared.cells.Value.{Value}
 use Rattle.heap_terms.specs.declared.cells.Value.TheVariants as values
 use Rattle.heap_terms.specs.declared.events.PassRecord.{PassRecord}
 use Rattle.heap_terms.specs.declared.events.PinAt.{PinAt}
 use Rattle.heap_terms.specs.declared.events.Placing.{Placing}
-use Rattle.heap_terms.specs.declared.kinds.Weakness.{Weakness}
-use Rattle.heap_terms.specs.Generations.{has_generation, is_of, names}
+use Rattle.heap_terms.specs.Generations.{is_of, names}
 use Rattle.heap_terms.specs.Heap.{NamedHeap, Thread, object_at, thread_at, ended_thread, fresh_thread, zero_value}
 use Rattle.heap_terms.specs.Live.{IsClosed, AreLiveNames, is_live}
 use Rattle.heap_terms.specs.Objects.{Object, Contents, ConsOf, VectorOf, InstanceOf, ClosureOf, WordsOf, WeakTo, TableOf}
 use Rattle.heap_terms.specs.Passes.{ArePins, remains}
-use Rattle.heap_terms.specs.Roots.{is_hit, is_pinned}
-use Rattle.pass_laws.proofs.LiveNames.{refers, pair_reaches, keeps_value, keeps_key, reaches, AllBelow, object_below, IsFixed, step, step_below, step_least, fixed_closed}
+use Rattle.heap_terms.specs.Roots.{is_pinned}
+use Rattle.pass_laws.proofs.LiveNames.{refers, pair_reaches, keeps_value, reaches, AllBelow, object_below, step, step_below, step_least, fixed_closed}
 use Rattle.pass_laws.proofs.Lookups.{found_at}
 use Rattle.pass_laws.proofs.PinLists.{pinned_there}
 
@@ -88,9 +87,11 @@ all_in : (a : NamedHeap) → names_below a ≡ true → AllBelow a
 all_in a h =
     let n = length a.objects in
     let parts = and_parts _ _ h in
-    let rest = and_parts _ _ parts.1 in
-    (λ t x e. thread_in t x parts.0 e, λ x e. list_in n x a.shared rest.0 e,
-    λ m o set x at e. contents_in n x set o.contents (object_is m o rest.1 at) e)
+    let rest = and_parts _ _ parts.1 in (
+      λ t x e. thread_in t x parts.0 e,
+      λ x e. list_in n x a.shared rest.0 e,
+      λ m o set x at e. contents_in n x set o.contents (object_is m o rest.1 at) e,
+    )
   where
     thread_in : (t x : ℕ) → list_all (thread_below (length a.objects)) a.threads ≡ true → list_any (refers x) (thread_at a t).exact ≡ true → x < length a.objects
     thread_in t x all e = elim (cases_lt t (length a.threads)) [

@@ -1,17 +1,17 @@
 -- Live names exist: from no name on, what the members keep is added until nothing new comes.
-use Rattle.std.proofs.Common.{◌≡◌, ℕ, zero, suc, ◌+◌, ◌<◌, ◌≤◌, List, [], ◌∷◌, length, get_or, Option, Some, None, Bool, true, false, ◌⊎◌, inl, inr, refl, sym, ◌∙◌, subst, ap, arith}
+use Rattle.std.proofs.Common.{◌≡◌, ℕ, zero, suc, ◌+◌, ◌<◌, ◌≤◌, List, [], ◌∷◌, length, get_or, Option, Some, None, Bool, true, false, ◌⊎◌, inl, inr, refl, sym, ◌∙◌, subst, arith}
 use Rattle.std.proofs.lemmas.Bool.{cases_lt, cases_eq, cases_Bool, or_cases, or_left, or_right, and_parts, and_from, lt-ltb, ltb-true, false≢true, eqb-true, eq-eqb, not_from_false, not-true}
 use Rattle.std.proofs.lemmas.List.Folds.{Any-from_list_any, list_any_at}
 use Rattle.std.proofs.lemmas.List.FromFn.{length-range_with_len, get_or-range_with_len}
 use Rattle.std.proofs.lemmas.List.{get_or_past}
 use Rattle.std.specs.List.{list_any, range_with_len}
-use Rattle.std.specs.Prelude.{◌&&◌, ◌||◌, not, ◌==◌, ◌≢◌, nat_lt, if◌then◌else◌, IsSome}
+use Rattle.std.specs.Prelude.{◌&&◌, ◌||◌, not, ◌==◌, ◌≢◌, nat_lt, if◌then◌else◌}
 use Rattle.heap_terms.specs.declared.cells.Value.{Value}
 use Rattle.heap_terms.specs.declared.cells.Value.TheVariants as values
 use Rattle.heap_terms.specs.declared.kinds.Weakness.{Weakness}
 use Rattle.heap_terms.specs.declared.kinds.Weakness.TheVariants as weaknesses
 use Rattle.heap_terms.specs.Heap.{NamedHeap, Thread, object_at, thread_at, ended_thread, fresh_thread, zero_value}
-use Rattle.heap_terms.specs.Live.{is_live, AreLive, KeepsSides, KeepPairs, Keeps, IsClosed, AreLiveNames}
+use Rattle.heap_terms.specs.Live.{is_live, AreLive, KeepsSides, Keeps, IsClosed, AreLiveNames}
 use Rattle.heap_terms.specs.Objects.{Object, Contents, ConsOf, VectorOf, InstanceOf, ClosureOf, WordsOf, WeakTo, TableOf}
 use Rattle.heap_terms.specs.Roots.{is_hit, ambiguous_words}
 

@@ -1,5 +1,5 @@
 -- A record that the tests accept, and whose lists are those of the heap, tells a pass.
-use Rattle.std.proofs.Common.{◌≡◌, ℕ, Bool, true, refl}
+use Rattle.std.proofs.Common.{◌≡◌, ℕ, Bool, true}
 use Rattle.std.proofs.lemmas.Bool.{and_parts}
 use Rattle.std.specs.Prelude.{◌&&◌, not, ◌==◌}
 use Rattle.heap_terms.specs.declared.events.PassRecord.{PassRecord}

@@ -1,6 +1,6 @@
 -- When a collection goes on with a generation that was not asked for: it has more than 1,024 words, and its average age is
 -- above three quarters. Here generation 1 has 1,026 words or 1,024, and 770 or 769 were added up at the raises into it.
-use Rattle.std.specs.Prelude.{◌≡◌, ℕ, [], ◌∷◌, Some, None, true, false, replicate}
+use Rattle.std.specs.Prelude.{◌≡◌, ℕ, [], ◌∷◌, Some, true, false, replicate}
 use Rattle.heap_terms.specs.Heap.{NamedHeap, zero_value}
 use Rattle.heap_terms.specs.Objects.{VectorOf}
 use Rattle.heap_terms.specs.Policy.{is_raised, is_continued}

@@ -1,6 +1,6 @@
 -- Held by an exact cell alone an object moves; held by an ambiguous cell too it does not, and rises by one generation in
 -- its place.
-use Rattle.std.specs.Prelude.{ℕ, List, [], ◌∷◌, ◌++◌, Some, None, pos}
+use Rattle.std.specs.Prelude.{List, [], ◌∷◌, ◌++◌}
 use Rattle.heap_terms.specs.declared.answers.Answer.TheVariants.{Done, Word, Placed}
 use Rattle.heap_terms.specs.declared.cells.Cell.TheVariants.{Stack, Exact}
 use Rattle.heap_terms.specs.declared.commands.Command.TheVariants.{NewCons, Move, Addr, SetRaw, Collect}

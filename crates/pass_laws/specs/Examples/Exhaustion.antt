@@ -1,5 +1,5 @@
 -- Space runs out within a pass: an object for which no page is left stays, and a smaller one still goes after the first.
-use Rattle.std.specs.Prelude.{ℕ, List, [], ◌∷◌, ◌++◌, Some, None, pos}
+use Rattle.std.specs.Prelude.{List, [], ◌∷◌}
 use Rattle.heap_terms.specs.declared.answers.Answer.TheVariants.{Done, Placed}
 use Rattle.heap_terms.specs.declared.cells.Cell.TheVariants.{Exact}
 use Rattle.heap_terms.specs.declared.commands.Command.TheVariants.{NewVector, Collect}

@@ -1,5 +1,5 @@
 -- The finalizers of a dead object are queued in the order of their registration; those that were cancelled are not.
-use Rattle.std.specs.Prelude.{ℕ, List, [], ◌∷◌, ◌++◌, Some, None, pos}
+use Rattle.std.specs.Prelude.{List, [], ◌∷◌}
 use Rattle.heap_terms.specs.declared.answers.Answer.TheVariants.{Done, Count, Placed}
 use Rattle.heap_terms.specs.declared.cells.Cell.TheVariants.{Exact}
 use Rattle.heap_terms.specs.declared.commands.Command.TheVariants.{NewCons, MakeNil, Collect, Finalize, Cancel}

@@ -1,5 +1,5 @@
 -- Of two neighbours on a page one is held by an ambiguous cell, so it is pinned and the other moves; the page stays.
-use Rattle.std.specs.Prelude.{ℕ, List, [], ◌∷◌, ◌++◌, Some, None, pos}
+use Rattle.std.specs.Prelude.{List, [], ◌∷◌}
 use Rattle.heap_terms.specs.declared.answers.Answer.TheVariants.{Done, Placed}
 use Rattle.heap_terms.specs.declared.cells.Cell.TheVariants.{Stack, Exact}
 use Rattle.heap_terms.specs.declared.commands.Command.TheVariants.{NewCons, Collect}

@@ -1,5 +1,5 @@
 -- An object of an older generation keeps a young one, even when it is garbage itself.
-use Rattle.std.specs.Prelude.{ℕ, List, [], ◌∷◌, ◌++◌, Some, None, pos}
+use Rattle.std.specs.Prelude.{List, [], ◌∷◌, ◌++◌}
 use Rattle.heap_terms.specs.declared.answers.Answer.TheVariants.{Done, Val, Placed}
 use Rattle.heap_terms.specs.declared.cells.Cell.TheVariants.{Stack, Exact}
 use Rattle.heap_terms.specs.declared.cells.Value.TheVariants as values

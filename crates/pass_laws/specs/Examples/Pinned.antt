@@ -1,5 +1,5 @@
 -- Two objects are held by ambiguous cells and keep their pages; the page of the third, which nothing holds, is freed.
-use Rattle.std.specs.Prelude.{ℕ, List, [], ◌∷◌, ◌++◌, Some, None, pos}
+use Rattle.std.specs.Prelude.{List, [], ◌∷◌}
 use Rattle.heap_terms.specs.declared.answers.Answer.TheVariants.{Done, Placed}
 use Rattle.heap_terms.specs.declared.cells.Cell.TheVariants.{Stack, Exact}
 use Rattle.heap_terms.specs.declared.commands.Command.TheVariants.{NewCons, NewInstance, NewWords, MakeNil, Collect}

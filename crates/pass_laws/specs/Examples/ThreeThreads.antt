@@ -1,6 +1,6 @@
 -- Three threads, shared cells and a table of weakness key: a pass over generation 0, then two collections of two passes
 -- each, which raise what they keep. The last one culls the pair of a dead key.
-use Rattle.std.specs.Prelude.{ℕ, List, [], ◌∷◌, ◌++◌, Some, None, pos}
+use Rattle.std.specs.Prelude.{List, [], ◌∷◌, ◌++◌, pos}
 use Rattle.heap_terms.specs.declared.answers.Answer.TheVariants.{Done, Val, Placed}
 use Rattle.heap_terms.specs.declared.cells.Cell.TheVariants.{Stack, Exact, Shared}
 use Rattle.heap_terms.specs.declared.cells.Value.TheVariants as values

@@ -1,6 +1,6 @@
 -- A live key and four dead values, one in a table of each weakness: the key keeps its value in the tables of weakness key
 -- and key-or-value, and its pair is culled from the two others.
-use Rattle.std.specs.Prelude.{ℕ, List, [], ◌∷◌, ◌++◌, Some, None, pos}
+use Rattle.std.specs.Prelude.{List, [], ◌∷◌}
 use Rattle.heap_terms.specs.declared.answers.Answer.TheVariants.{Done, Placed}
 use Rattle.heap_terms.specs.declared.cells.Cell.TheVariants.{Stack, Exact}
 use Rattle.heap_terms.specs.declared.cells.Value.TheVariants as values

@@ -17,7 +17,8 @@ use Rattle.pass_laws.proofs.examples.an_ambiguous_cell_pins.Goals as goal
 pub returns : goal.returns
 unfolding start next after outcome_of opened committed placement after_pass collected promotes raises goes_on step grown
 returns c = (
-    told_passes (heap_at script history) 0 0 4 told refl refl refl
-    (record { placed = refl; culls = refl; breaks = refl; queued = refl; freed = refl; dead = refl; kept = refl }),
-    told_passes (heap_at script later) 0 1 4 told_later refl refl refl
-    (record { placed = refl; culls = refl; breaks = refl; queued = refl; freed = refl; dead = refl; kept = refl }))
+  told_passes (heap_at script history) 0 0 4 told refl refl refl
+      (record { placed = refl; culls = refl; breaks = refl; queued = refl; freed = refl; dead = refl; kept = refl }),
+  told_passes (heap_at script later) 0 1 4 told_later refl refl refl
+      (record { placed = refl; culls = refl; breaks = refl; queued = refl; freed = refl; dead = refl; kept = refl }),
+)

@@ -17,11 +17,12 @@ use Rattle.pass_laws.proofs.examples.old_garbage_keeps.Goals as goal
 pub returns : goal.returns
 unfolding start next after outcome_of opened committed placement after_pass collected promotes raises goes_on step grown
 returns c = (
-    told_passes (heap_at script first) 0 0 4 told_first refl refl refl
-    (record { placed = refl; culls = refl; breaks = refl; queued = refl; freed = refl; dead = refl; kept = refl }),
-    told_passes (heap_at script second) 0 1 4 told_second refl refl refl
-    (record { placed = refl; culls = refl; breaks = refl; queued = refl; freed = refl; dead = refl; kept = refl }),
-    told_passes (heap_at script third) 0 0 4 told_third refl refl refl
-    (record { placed = refl; culls = refl; breaks = refl; queued = refl; freed = refl; dead = refl; kept = refl }),
-    told_passes (heap_at script fourth) 0 1 4 told_fourth refl refl refl
-    (record { placed = refl; culls = refl; breaks = refl; queued = refl; freed = refl; dead = refl; kept = refl }))
+  told_passes (heap_at script first) 0 0 4 told_first refl refl refl
+      (record { placed = refl; culls = refl; breaks = refl; queued = refl; freed = refl; dead = refl; kept = refl }),
+  told_passes (heap_at script second) 0 1 4 told_second refl refl refl
+      (record { placed = refl; culls = refl; breaks = refl; queued = refl; freed = refl; dead = refl; kept = refl }),
+  told_passes (heap_at script third) 0 0 4 told_third refl refl refl
+      (record { placed = refl; culls = refl; breaks = refl; queued = refl; freed = refl; dead = refl; kept = refl }),
+  told_passes (heap_at script fourth) 0 1 4 told_fourth refl refl refl
+      (record { placed = refl; culls = refl; breaks = refl; queued = refl; freed = refl; dead = refl; kept = refl }),
+)

@@ -17,13 +17,14 @@ use Rattle.pass_laws.proofs.examples.three_threads_collect.Goals as goal
 pub returns : goal.returns
 unfolding start next after outcome_of opened committed placement after_pass collected promotes raises goes_on step grown
 returns c = (
-    told_passes (heap_at script first) 0 0 4 told_first refl refl refl
-    (record { placed = refl; culls = refl; breaks = refl; queued = refl; freed = refl; dead = refl; kept = refl }),
-    told_passes (heap_at script second) 0 1 4 told_young refl refl refl
-    (record { placed = refl; culls = refl; breaks = refl; queued = refl; freed = refl; dead = refl; kept = refl }),
-    told_passes (after_pass (heap_at script second) told_young) 1 1 4 told_old refl refl refl
-    (record { placed = refl; culls = refl; breaks = refl; queued = refl; freed = refl; dead = refl; kept = refl }),
-    told_passes (heap_at script third) 0 1 4 (quiet 0 1) refl refl refl
-    (record { placed = refl; culls = refl; breaks = refl; queued = refl; freed = refl; dead = refl; kept = refl }),
-    told_passes (after_pass (heap_at script third) (quiet 0 1)) 1 2 4 told_last refl refl refl
-    (record { placed = refl; culls = refl; breaks = refl; queued = refl; freed = refl; dead = refl; kept = refl }))
+  told_passes (heap_at script first) 0 0 4 told_first refl refl refl
+      (record { placed = refl; culls = refl; breaks = refl; queued = refl; freed = refl; dead = refl; kept = refl }),
+  told_passes (heap_at script second) 0 1 4 told_young refl refl refl
+      (record { placed = refl; culls = refl; breaks = refl; queued = refl; freed = refl; dead = refl; kept = refl }),
+  told_passes (after_pass (heap_at script second) told_young) 1 1 4 told_old refl refl refl
+      (record { placed = refl; culls = refl; breaks = refl; queued = refl; freed = refl; dead = refl; kept = refl }),
+  told_passes (heap_at script third) 0 1 4 (quiet 0 1) refl refl refl
+      (record { placed = refl; culls = refl; breaks = refl; queued = refl; freed = refl; dead = refl; kept = refl }),
+  told_passes (after_pass (heap_at script third) (quiet 0 1)) 1 2 4 told_last refl refl refl
+      (record { placed = refl; culls = refl; breaks = refl; queued = refl; freed = refl; dead = refl; kept = refl }),
+)
