@@ -1,7 +1,6 @@
 -- What an event may be, and what it leaves as it was.
 pub mod Appending
 pub mod Causes
-pub mod Effects
 pub mod Tasks
 pub mod OwnThread
 pub mod OtherThreads

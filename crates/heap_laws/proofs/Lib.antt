@@ -10,7 +10,10 @@ mod Slots
 mod Programs
 mod Events
 mod WellFormed
+mod Outcomes
 mod Termination
 mod Progress
 mod Order
 mod Ranges
+mod Equal
+mod OneCommand

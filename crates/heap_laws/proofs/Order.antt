@@ -2,3 +2,4 @@
 pub mod ScriptsInOrder
 pub mod Determined
 pub mod RunsAsRelation
+pub mod OneRun

@@ -5,5 +5,7 @@ pub mod Threads
 pub mod FieldWritten
 pub mod RegionOpened
 pub mod ObjectAdded
+pub mod LargeAdded
+pub mod Counting
 pub mod Committed
 pub mod Replayed

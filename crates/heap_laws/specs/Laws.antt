@@ -25,24 +25,25 @@ HistoriesGrow = (p : Program) (h : List Event) (e : Event) → Lawful p h → Is
 abbrev pub HeapsAreWellFormed : Type 0
 HeapsAreWellFormed = (p : Program) (h : List Event) → IsValid p → Lawful p h → IsWellFormed p (replay p h)
 
--- of at most 20,000 objects, all of them conses until more kinds are built
+-- of at most 20,000 objects; until more kinds are built, all of them conses
 abbrev pub HeapsAreSmall : Type 0
 HeapsAreSmall = (p : Program) (h : List Event) → IsValid p → Lawful p h →
     (length (replay p h).objects ≤ MOST_COMMANDS)
     × ((name : ℕ) → IfSome (object_at (replay p h).objects name) (λ o. kind_of o.contents ≡ kinds.Cons))
 
--- no thread collects until collections are built
+-- until collections are built no thread owes one
 abbrev pub NobodyCollects : Type 0
 NobodyCollects = (p : Program) (h : List Event) (t last : ℕ) → IsValid p → Lawful p h → ¬ (next p (replay p h) t ≡ nexts.Collect last)
 
--- with each event there is less left, so that every history ends: it has at most 40,016 events
+-- with each event there is less left, so that every history ends; until collections are built it has at most 40,016
+-- events
 abbrev pub HistoriesEnd : Type 0
 HistoriesEnd =
     ((p : Program) (h : List Event) (e : Event) → IsValid p → Lawful p h → IsNext p (replay p h) e →
     all_left p (after p (replay p h) e) + 1 ≤ all_left p (replay p h))
     × ((p : Program) (h : List Event) → IsValid p → Lawful p h → length h ≤ most_events)
 
--- a thread that has not ended has an event that may come next
+-- until collections are built a thread that has not ended has an event that may come next
 abbrev pub ThreadsGoOn : Type 0
 ThreadsGoOn = (p : Program) (h : List Event) (t : ℕ) → IsValid p → Lawful p h → (thread_at (replay p h) t).ended ≡ false →
     (e : Event) × (thread_of e ≡ t) × IsNext p (replay p h) e
@@ -62,11 +63,12 @@ abbrev pub ScriptsAreDone : Type 0
 ScriptsAreDone = (p : Program) (h : List Event) (t : ℕ) → IsValid p → IsComplete p h → t < length p.threads →
     (commands_of t h ≡ script_of p t) × EndsOnce t (events_of t h)
 
--- every event of a lawful history of a valid program is plain
+-- every event of a lawful history of a valid program is plain; until collections are built none is one
 abbrev pub EventsArePlain : Type 0
 EventsArePlain = (p : Program) (h : List Event) → IsValid p → Lawful p h → All IsPlain h
 
--- what a thread may do next is one event, so that the order of the threads determines a history
+-- until collections are built what a thread may do next is one event, so that the order of the threads determines a
+-- history
 abbrev pub OrderDetermines : Type 0
 OrderDetermines =
     ((p : Program) (a : NamedHeap) (e f : Event) → IsNext p a e → IsNext p a f → thread_of e ≡ thread_of f → e ≡ f)

@@ -1,5 +1,6 @@
 //! Laws of lawful histories.
 
+ghost use Rattle.heap_laws.specs.CommandLaws.{OneScriptOneJournal};
 ghost use Rattle.heap_laws.specs.Laws.{HistoriesGrow, HistoriesEnd, ThreadsGoOn, HistoriesComplete, RunsAreLawful, ScriptsAreDone, EventsArePlain, OrderDetermines};
 
 /// An event that may come next makes a lawful history one longer, and the heap at its end is the
@@ -8,13 +9,15 @@ pub fn histories_grow()
     ensures { HistoriesGrow }
 {}
 
-/// Each event leaves fewer to come, and no history of a valid program has more than 40,016.
+/// Each event leaves fewer to come, and so every history ends. Holds until collections are built:
+/// none of a valid program has more than 40,016 events, two for each command and two for each thread.
 pub fn histories_end()
     ensures { HistoriesEnd }
 {}
 
-/// A thread of a valid program that has not ended has an event that may come next, whatever was
-/// done before.
+/// Holds until collections are built: a thread of a valid program that has not ended has an event
+/// that may come next, whatever was done before. (A thread that owes a collection cannot go on
+/// while another inhibits it.)
 pub fn threads_go_on()
     ensures { ThreadsGoOn }
 {}
@@ -36,13 +39,20 @@ pub fn scripts_are_done()
 {}
 
 /// Every event of a lawful history of a valid program has a command that is built, an answer that
-/// such a command gives, and numbers in their ranges.
+/// such a command gives, and numbers in their ranges. Holds until collections are built: none is
+/// among the events.
 pub fn events_are_plain()
     ensures { EventsArePlain }
 {}
 
-/// What a thread may do next is one event: two histories with the same threads in the same order
-/// are the same.
+/// Holds until collections are built: what a thread may do next is one event, so two histories with
+/// the same threads in the same order are the same. (A collection may move objects in any order.)
 pub fn order_determines()
     ensures { OrderDetermines }
+{}
+
+/// Where no collection is in it one script has one journal: two complete runs of one program by its
+/// schedule have the same events, the same lines and the same text, however many rounds they took.
+pub fn one_script_one_journal()
+    ensures { OneScriptOneJournal }
 {}

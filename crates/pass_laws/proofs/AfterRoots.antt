@@ -20,7 +20,7 @@ use Rattle.heap_terms.specs.Passes.{IsPass, remains, order_of, entry_after, afte
 use Rattle.heap_terms.specs.Placement.{scratch, placement}
 use Rattle.heap_terms.specs.Roots.{thread_words, hits, is_hit}
 use Rattle.heap_terms.specs.WellFormed.{IsWellFormed, IsThread, IsLiving, AreLiving, IsCollected}
-use Rattle.heap_terms.specs.Words.{word_of}
+use Rattle.heap_terms.specs.Spelling.{word_of}
 use Rattle.pass_laws.specs.NoRegions.{HasNoRegions}
 use Rattle.pass_laws.proofs.AfterPages.{new_generation, spread, entry_is, pages_long}
 use Rattle.pass_laws.proofs.AfterPass.{remaining, list_living_after, pass_sound}

@@ -11,7 +11,7 @@ use Rattle.heap_terms.specs.declared.pages.Entry.{Entry}
 use Rattle.heap_terms.specs.declared.pages.Entry.TheVariants.{Free, Used}
 use Rattle.heap_terms.specs.Heap.{entry_at}
 use Rattle.heap_terms.specs.Placement.{scratch, is_free_run, lowest_run, taken_run}
-use Rattle.heap_terms.specs.Regions.{is_free, IsRun, IsLowestRun, HasNoRun}
+use Rattle.heap_terms.specs.Regions.{is_free, IsFreeRun, IsLowestRun, HasNoRun}
 
 pub find_passes : {X : Type 0} (p : X → Bool) (xs : List X) (x : X) → find p xs ≡ Some x → p x ≡ true
 find_passes p [] x e = cc
@@ -37,7 +37,7 @@ free_run pages k first e =
     record {
       inside = inside;
       free = λ i l. free_entry (entry_at pages (first + i)) (
-          let at : is_free (get_or (take k (drop first pages)) i Free) ≡ true = all i Free (simp (length-take-le, length-take, length-drop) (omega arith)) in
+          let at : is_free (get_or (take k (drop first pages)) i Free) ≡ true = all i Free (simp (length-take, length-drop) (omega arith)) in
           let same : get_or (take k (drop first pages)) i Free ≡ entry_at pages (first + i) = get_or-take k (drop first pages) i Free l ∙ get_or-drop first pages i Free in
           subst (λ (x : Entry). is_free x ≡ true) same at);
     }
@@ -102,7 +102,7 @@ find_none p from (suc n) e y low high = elim (cases_Bool (p from)) [
 ]
 
 -- a run of free pages, tested and said
-run_from : (pages : List Entry) (first k : ℕ) → is_free_run pages k first ≡ true → IsRun pages first k
+run_from : (pages : List Entry) (first k : ℕ) → is_free_run pages k first ≡ true → IsFreeRun pages first k
 run_from pages first k e =
     let run = free_run pages k first e in
     record {
@@ -111,7 +111,7 @@ run_from pages first k e =
           subst (λ (j : ℕ). is_free (entry_at pages j) ≡ true) at (ap is_free (run.free (i - first) (omega arith))));
     }
 
-from_run : (pages : List Entry) (first k : ℕ) → IsRun pages first k → is_free_run pages k first ≡ true
+from_run : (pages : List Entry) (first k : ℕ) → IsFreeRun pages first k → is_free_run pages k first ≡ true
 from_run pages first k h =
     let inside = h.inside in
     and_from (nat_le (first + k) (length pages)) _ (le-leb (first + k) (length pages) inside)

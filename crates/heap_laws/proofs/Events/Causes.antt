@@ -1,24 +1,28 @@
 -- The kinds of event that may come next, with what is known of each.
-use Rattle.std.proofs.Common.{◌≡◌, ◌≢◌, ℕ, ◌<◌, length, Option, Some, None, Bool, true, false, inl, inr, refl, sym, ◌∙◌, ap}
+use Rattle.std.proofs.Common.{◌≡◌, ◌≢◌, ℕ, ◌<◌, List, length, Option, Some, None, Bool, true, false, inl, inr, refl, sym, ◌∙◌, subst, ap}
 use Rattle.std.proofs.lemmas.Bool.{cases_lt, cases_Bool, false≢true}
 use Rattle.std.proofs.lemmas.List.{get_or_past}
-use Rattle.std.specs.Prelude.{if◌then◌else◌}
+use Rattle.std.specs.Prelude.{if◌then◌else◌, ◌==◌}
 use Rattle.heap_terms.specs.declared.answers.Answer.{Answer}
 use Rattle.heap_terms.specs.declared.answers.Answer.TheVariants as answers
 use Rattle.heap_terms.specs.declared.answers.Refusal.TheVariants.{Exhausted}
 use Rattle.heap_terms.specs.declared.commands.Command.{Command}
+use Rattle.heap_terms.specs.declared.commands.Command.TheVariants as commands
 use Rattle.heap_terms.specs.declared.events.Event.{Event}
 use Rattle.heap_terms.specs.declared.events.Event.TheVariants.{Did, Opened, Collected, Ended}
+use Rattle.heap_terms.specs.declared.events.PassRecord.{PassRecord}
 use Rattle.heap_terms.specs.declared.kinds.Kind.{Kind}
 use Rattle.heap_terms.specs.declared.kinds.PageType.{PageType}
 use Rattle.heap_terms.specs.declared.pages.Next.{Next}
 use Rattle.heap_terms.specs.declared.pages.Next.TheVariants as nexts
 use Rattle.heap_terms.specs.declared.programs.Program.{Program}
+use Rattle.heap_terms.specs.Collections.{IsCollection, collected}
 use Rattle.heap_terms.specs.Heap.{NamedHeap, Thread, thread_at, with_thread, ended_thread, fresh_thread}
 use Rattle.heap_terms.specs.Histories.{IsNext, IsAnswer, IsOpening, after, after_command, next, next_for, next_command, next_unless_due, due, advance, command_at, wish_at}
 use Rattle.heap_terms.specs.Layout.{page_type_of, size_of}
 use Rattle.heap_terms.specs.Regions.{Wish, Nothing, Make, wish_of, has_room, pages_needed, IsLowestRun, HasNoRun, opened, committed, place_for}
-use Rattle.heap_terms.specs.Simple.{answer_of, effect_of}
+use Rattle.heap_terms.specs.Outcome.{Outcome, refused}
+use Rattle.heap_terms.specs.Outcomes.{outcome_of}
 
 -- a thread that has not ended is one of the heap's
 pub alive_thread : (a : NamedHeap) (t : ℕ) → (thread_at a t).ended ≡ false → t < length a.threads
@@ -32,7 +36,7 @@ pub record DoesSimple (p : Program) (a : NamedHeap) (t : ℕ) (c : Command) (ans
   pub alive : (thread_at a t).ended ≡ false
   pub command : command_at p a t ≡ Some c
   pub wish : wish_of c ≡ Nothing
-  pub answered : answer_of a t c ≡ Some answer
+  pub answered : answer ≡ (outcome_of a t c).answer
 
 -- thread t does the command c, which wants an object for which there is no room and no run
 pub record IsRefused (p : Program) (a : NamedHeap) (t : ℕ) (c : Command) (answer : Answer) : Type 0 where
@@ -67,6 +71,12 @@ pub record Opens (p : Program) (a : NamedHeap) (t : ℕ) (ty : PageType) (first 
   pub type_is : ty ≡ page_type_of kind
   pub count_is : k ≡ pages_needed (size_of kind n)
   pub lowest : IsLowestRun a.pages first k
+
+-- thread t collects up to a generation, with these passes
+pub record Collects (p : Program) (a : NamedHeap) (t last : ℕ) (passes : List PassRecord) : Type 0 where
+  pub alive : (thread_at a t).ended ≡ false
+  pub owes : (thread_at a t).owed ≡ Some last
+  pub collection : IsCollection a last passes
 
 -- thread t ends
 pub record Ends (p : Program) (a : NamedHeap) (t : ℕ) : Type 0 where
@@ -120,12 +130,47 @@ never_collects_for a t (Make k m s) last e = elim (cases_Bool (has_room a t k (s
   | inr h ↦ (let e' = rw h at e in cc)
 ]
 
+pub never_collects_command : (a : NamedHeap) (t : ℕ) (o : Option Command) (last : ℕ) → next_command a t o ≡ nexts.Collect last → ⊥
+never_collects_command a t None last e = cc
+never_collects_command a t (Some c) last e = never_collects_for a t (wish_of c) last e
+
+-- a command that allocates is refused by the table, where it finds no room
+pub allocating_refused : (a : NamedHeap) (t : ℕ) (c : Command) (kind : Kind) (n seed : ℕ) → wish_of c ≡ Make kind n seed → outcome_of a t c ≡ refused Exhausted a
+unfolding outcome_of
+allocating_refused a t (commands.NewCons d x y) kind n seed e = refl
+allocating_refused a t (commands.NewVector d m) kind n seed e = refl
+allocating_refused a t (commands.NewInstance d m) kind n seed e = refl
+allocating_refused a t (commands.NewClosure d m) kind n seed e = refl
+allocating_refused a t (commands.NewWords d m w) kind n seed e = refl
+allocating_refused a t (commands.NewWeak d c) kind n seed e = refl
+allocating_refused a t (commands.NewTable d w b) kind n seed e = refl
+allocating_refused a t _ kind n seed e = cc
+
 -- a next thing to do that is neither to collect nor nothing is that of the command at the thread's place
 pub next_is_commands : (ended : Bool) (owed : Option ℕ) (n m : Next) → (if ended then nexts.Done else next_unless_due owed n) ≡ m →
     m ≢ nexts.Done → ((last : ℕ) → m ≢ nexts.Collect last) → (ended ≡ false) × (n ≡ m)
 next_is_commands true owed n m e done collect = absurd (done (sym e))
 next_is_commands false None n m e done collect = (refl, e)
 next_is_commands false (Some last) n m e done collect = absurd (collect last (sym e))
+
+-- and to collect is that of a thread that owes, and does not inhibit
+pub collect_is_owed : (ended : Bool) (inhibits : ℕ) (owed : Option ℕ) (n : Next) (last : ℕ) →
+    (if ended then nexts.Done else next_unless_due (if inhibits == 0 then owed else None) n) ≡ nexts.Collect last → (n ≡ nexts.Collect last → ⊥) →
+    (ended ≡ false) × (owed ≡ Some last)
+collect_is_owed true inhibits owed n last e other = cc
+collect_is_owed false inhibits owed n last e other = elim (cases_Bool (inhibits == 0)) [
+  | inl free ↦ (refl, due_is owed n last (rw free at e) other)
+  | inr inhibited ↦ absurd (other (rw inhibited at e))
+]
+  where
+    due_is : (owed : Option ℕ) (n : Next) (last : ℕ) → next_unless_due owed n ≡ nexts.Collect last → (n ≡ nexts.Collect last → ⊥) → owed ≡ Some last
+    due_is None n last e other = absurd (other e)
+    due_is (Some g) n last e other = cc
+
+pub collects_next : (p : Program) (a : NamedHeap) (t last : ℕ) → next p a t ≡ nexts.Collect last → ((thread_at a t).ended ≡ false) × ((thread_at a t).owed ≡ Some last)
+unfolding next
+collects_next p a t last e = collect_is_owed (thread_at a t).ended (thread_at a t).inhibits (thread_at a t).owed (next_command a t (command_at p a t)) last e
+    (never_collects_command a t (command_at p a t) last)
 
 pub next_parts : (p : Program) (a : NamedHeap) (t : ℕ) (m : Next) → next p a t ≡ m →
     m ≢ nexts.Done → ((last : ℕ) → m ≢ nexts.Collect last) →
@@ -141,11 +186,11 @@ next_with_command a t (Some d) c m o e = let same : d ≡ c = cc in rw (← same
 
 -- the kinds of command that may come next
 pub by_command : (p : Program) (a : NamedHeap) (t : ℕ) (c : Command) (answer : Answer) (P : NamedHeap → Type 0) →
-    (DoesSimple p a t c answer → P (advance (effect_of a t c) t)) →
+    (DoesSimple p a t c answer → P (advance (outcome_of a t c).heap t)) →
     (IsRefused p a t c answer → P (advance a t)) →
     ((kind : Kind) (n seed : ℕ) → Builds p a t c answer kind n seed → P (advance (committed p a t c kind n) t)) →
     (m : Next) → next p a t ≡ m → command_at p a t ≡ Some c → IsAnswer a t c answer m → P (after_command p a t c m)
-by_command p a t c answer P simple refused builds nexts.Simple e at answered =
+by_command p a t c answer P simple refuses builds nexts.Simple e at answered =
     let parts = next_parts p a t nexts.Simple e (λ d. cc) (λ last d. cc) in
     simple (record {
       alive = parts.0;
@@ -153,10 +198,11 @@ by_command p a t c answer P simple refused builds nexts.Simple e at answered =
       wish = simple_for a t (wish_of c) (next_with_command a t (command_at p a t) c nexts.Simple at parts.1);
       answered = answered;
     })
-by_command p a t c answer P simple refused builds nexts.Open e at answered =
+by_command p a t c answer P simple refuses builds nexts.Open e at answered =
     let parts = next_parts p a t nexts.Open e (λ d. cc) (λ last d. cc) in
     let wished = opens_for a t (wish_of c) (next_with_command a t (command_at p a t) c nexts.Open at parts.1) in
-    refused (record {
+    let none = allocating_refused a t c wished.0 wished.1 wished.2 wished.3 in
+    subst (λ (o : Outcome). P (advance o.heap t)) (sym none) (refuses (record {
       alive = parts.0;
       command = at;
       kind = wished.0;
@@ -164,16 +210,16 @@ by_command p a t c answer P simple refused builds nexts.Open e at answered =
       seed = wished.2;
       wish = wished.3;
       no_room = wished.4;
-      answered = answered.0;
+      answered = answered.0 ∙ ap (λ (o : Outcome). o.answer) none;
       no_run = rw wished.3 at answered.1;
-    })
-by_command p a t c answer P simple refused builds (nexts.Build kind n seed) e at answered =
+    }))
+by_command p a t c answer P simple refuses builds (nexts.Build kind n seed) e at answered =
     let parts = next_parts p a t (nexts.Build kind n seed) e (λ d. cc) (λ last d. cc) in
     let wished = builds_for a t (wish_of c) kind n seed (next_with_command a t (command_at p a t) c (nexts.Build kind n seed) at parts.1) in
     builds kind n seed (record { alive = parts.0; command = at; wish = wished.0; room = wished.1; answered = answered })
-by_command p a t c answer P simple refused builds (nexts.Collect last) e at answered = absurd answered
-by_command p a t c answer P simple refused builds nexts.End e at answered = absurd answered
-by_command p a t c answer P simple refused builds nexts.Done e at answered = absurd answered
+by_command p a t c answer P simple refuses builds (nexts.Collect last) e at answered = absurd answered
+by_command p a t c answer P simple refuses builds nexts.End e at answered = absurd answered
+by_command p a t c answer P simple refuses builds nexts.Done e at answered = absurd answered
 
 -- what an opening is for
 pub opens_at : (a : NamedHeap) (o : Option Command) (ty : PageType) (first k : ℕ) → IsOpening a (wish_at o) ty first k →
@@ -207,24 +253,31 @@ opens_from p a t ty first k e =
       lowest = opening'.2;
     }
 
+pub collects_from : (p : Program) (a : NamedHeap) (t last : ℕ) (passes : List PassRecord) → IsNext p a (Collected t last passes) → Collects p a t last passes
+unfolding IsNext
+collects_from p a t last passes e =
+    let parts = collects_next p a t last e.0 in
+    record { alive = parts.0; owes = parts.1; collection = e.1 }
+
 pub ends_from : (p : Program) (a : NamedHeap) (t : ℕ) → IsNext p a (Ended t) → Ends p a t
 unfolding IsNext
 ends_from p a t e =
     let parts = next_parts p a t nexts.End e (λ d. cc) (λ last d. cc) in
     record { alive = parts.0; no_command = ends_at a t (command_at p a t) parts.1 }
 
--- what holds of every event that may come next and the heap after it, by the five kinds of event
+-- what holds of every event that may come next and the heap after it, by the six kinds of event
 pub by_events : (p : Program) (a : NamedHeap) (P : Event → NamedHeap → Type 0) →
-    ((t : ℕ) (c : Command) (answer : Answer) → DoesSimple p a t c answer → P (Did t c answer) (advance (effect_of a t c) t)) →
+    ((t : ℕ) (c : Command) (answer : Answer) → DoesSimple p a t c answer → P (Did t c answer) (advance (outcome_of a t c).heap t)) →
     ((t : ℕ) (c : Command) (answer : Answer) → IsRefused p a t c answer → P (Did t c answer) (advance a t)) →
     ((t : ℕ) (c : Command) (answer : Answer) (kind : Kind) (n seed : ℕ) → Builds p a t c answer kind n seed →
     P (Did t c answer) (advance (committed p a t c kind n) t)) →
     ((t : ℕ) (ty : PageType) (first k : ℕ) → Opens p a t ty first k → P (Opened t ty first k) (opened a t ty first k)) →
+    ((t last : ℕ) (passes : List PassRecord) → Collects p a t last passes → P (Collected t last passes) (collected a t last passes)) →
     ((t : ℕ) → Ends p a t → P (Ended t) (with_thread a t (ended_thread (thread_at a t)))) →
     (e : Event) → IsNext p a e → P e (after p a e)
 unfolding IsNext after
-by_events p a P simple refused builds opens ends (Did t c answer) e =
-    by_command p a t c answer (P (Did t c answer)) (simple t c answer) (refused t c answer) (builds t c answer) (next p a t) refl e.0 e.1
-by_events p a P simple refused builds opens ends (Opened t ty first k) e = opens t ty first k (opens_from p a t ty first k e)
-by_events p a P simple refused builds opens ends (Collected t last passes) e = absurd e
-by_events p a P simple refused builds opens ends (Ended t) e = ends t (ends_from p a t e)
+by_events p a P simple refuses builds opens collects ends (Did t c answer) e =
+    by_command p a t c answer (P (Did t c answer)) (simple t c answer) (refuses t c answer) (builds t c answer) (next p a t) refl e.0 e.1
+by_events p a P simple refuses builds opens collects ends (Opened t ty first k) e = opens t ty first k (opens_from p a t ty first k e)
+by_events p a P simple refuses builds opens collects ends (Collected t last passes) e = collects t last passes (collects_from p a t last passes e)
+by_events p a P simple refuses builds opens collects ends (Ended t) e = ends t (ends_from p a t e)

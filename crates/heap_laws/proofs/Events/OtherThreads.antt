@@ -14,7 +14,7 @@ use Rattle.heap_terms.specs.declared.programs.Program.{Program}
 use Rattle.heap_terms.specs.Heap.{NamedHeap, thread_at, with_thread, ended_thread, entry_at, open_page}
 use Rattle.heap_terms.specs.Histories.{IsNext, after, advance, command_at, script_of, thread_of, next, next_for, next_command, next_unless_due}
 use Rattle.heap_terms.specs.Layout.{page_type_of, size_of}
-use Rattle.heap_terms.specs.Regions.{Wish, Nothing, Make, wish_of, is_small, has_room, page_has_room, run_has_room, opened, IsRun}
+use Rattle.heap_terms.specs.Regions.{Wish, Nothing, Make, wish_of, is_small, has_room, page_has_room, run_has_room, opened, IsFreeRun}
 use Rattle.heap_terms.specs.Simple.{effect_of}
 use Rattle.heap_terms.specs.Valid.{IsValid}
 use Rattle.heap_terms.specs.WellFormed.{IsWellFormed, IsOpenRun, IsOpenRunPage}
@@ -76,7 +76,7 @@ next_same p a b u task entries =
         (if e' then nexts.Done else next_unless_due (if i' == 0 then o' else None) n') ≡ (if e then nexts.Done else next_unless_due (if i == 0 then o else None) n)
     go e i o n = rw (e, i, o, n) refl
 
-pub opened_entries : (p : Program) (a : NamedHeap) (t : ℕ) (ty : PageType) (first k u : ℕ) → IsWellFormed p a → IsRun a.pages first k →
+pub opened_entries : (p : Program) (a : NamedHeap) (t : ℕ) (ty : PageType) (first k u : ℕ) → IsWellFormed p a → IsFreeRun a.pages first k →
     HasSameEntries a (opened a t ty first k) u
 unfolding opened
 opened_entries p a t ty first k u w run = record {

@@ -41,7 +41,7 @@ with_destination-board : (b : NamedHeap) (t : ℕ) (o : Option Cell) (v : Value)
 with_destination-board b t None v = same_board b
 with_destination-board b t (Some d) v = with_cell-board b t d v
 
-with_destination-objects : (b : NamedHeap) (t : ℕ) (o : Option Cell) (v : Value) → (with_destination b t o v).objects ≡ b.objects
+pub with_destination-objects : (b : NamedHeap) (t : ℕ) (o : Option Cell) (v : Value) → (with_destination b t o v).objects ≡ b.objects
 with_destination-objects b t None v = refl
 with_destination-objects b t (Some d) v = with_cell-objects b t d v
 

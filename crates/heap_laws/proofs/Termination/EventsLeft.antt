@@ -19,7 +19,7 @@ use Rattle.heap_terms.specs.Heap.{NamedHeap, Thread, start, thread_at, entry_at,
 use Rattle.heap_terms.specs.Histories.{IsNext, after, command_at, script_of, thread_of, next, next_for, next_command, Lawful, LawfulFrom, replay_from}
 use Rattle.heap_terms.specs.Layout.{page_words, page_type_of, size_of}
 use Rattle.heap_laws.specs.Remaining.{left, all_left, opens_next, most_events}
-use Rattle.heap_terms.specs.Regions.{Wish, is_small, pages_needed, has_room, page_has_room, entry_has_room, entry_is_run, run_has_room, opened, with_run, IsRun}
+use Rattle.heap_terms.specs.Regions.{Wish, is_small, pages_needed, has_room, page_has_room, entry_has_room, entry_is_run, run_has_room, opened, with_run, IsFreeRun}
 use Rattle.heap_terms.specs.Valid.{IsValid}
 use Rattle.heap_terms.specs.WellFormed.{IsWellFormed}
 use Rattle.heap_laws.proofs.Events.Causes.{alive_thread, Opens, opens_from}
@@ -69,7 +69,7 @@ left_others p a e valid w next_is u other =
     go d i n = rw (d, i, n) refl
 
 -- a region that was opened for an object has room for it
-pub opened_room : (pages : List Entry) (th : Thread) (kind : Kind) (size first : ℕ) → IsRun pages first (pages_needed size) →
+pub opened_room : (pages : List Entry) (th : Thread) (kind : Kind) (size first : ℕ) → IsFreeRun pages first (pages_needed size) →
     (if is_small size
     then page_has_room (with_run pages first (pages_needed size) (page_type_of kind)) (open_page (thread_with_run th (page_type_of kind) first (pages_needed size)) (page_type_of kind)) size
     else run_has_room (with_run pages first (pages_needed size) (page_type_of kind)) (thread_with_run th (page_type_of kind) first (pages_needed size)).open_run size) ≡ true

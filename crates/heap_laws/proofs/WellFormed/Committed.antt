@@ -1,6 +1,6 @@
 -- The commit of a small object, in plain terms, and that it keeps a heap well-formed.
-use Rattle.std.proofs.Common.{◌≡◌, ℕ, ◌+◌, ◌*◌, ◌<◌, ◌≤◌, List, [], ◌∷◌, ◌++◌, length, Option, Some, None, true, refl, sym, ◌∙◌, subst, ap, set}
-use Rattle.std.proofs.lemmas.Bool.{eq-eqb, leb-true, false≢true}
+use Rattle.std.proofs.Common.{◌≡◌, ℕ, ◌+◌, ◌*◌, ◌^◌, ◌<◌, ◌≤◌, List, [], ◌∷◌, ◌++◌, length, Option, Some, None, true, false, inl, inr, refl, sym, ◌∙◌, subst, ap, arith, set}
+use Rattle.std.proofs.lemmas.Bool.{cases_Bool, leb-true, false≢true}
 use Rattle.std.proofs.lemmas.List.{length-replicate, set-get_or, get_or_push}
 use Rattle.heap_terms.specs.declared.cells.Cell.{Cell}
 use Rattle.heap_terms.specs.declared.cells.Value.{Value}
@@ -16,15 +16,15 @@ use Rattle.heap_terms.specs.Cells.{cell_value}
 use Rattle.heap_terms.specs.Heap.{NamedHeap, Thread, entry_at, thread_at, open_page, fill_of, ended_thread, fresh_thread, zero_value}
 use Rattle.heap_terms.specs.Layout.{page_words, page_type_of, size_of}
 use Rattle.heap_terms.specs.Objects.{Object, kind_of, payload_of, words_of_object}
-use Rattle.heap_terms.specs.Regions.{Make, wish_of, is_small, entry_has_room, page_has_room, has_room, place_for, pages_after, run_used, counting, committed, destination_of, with_destination, initial_contents}
-use Rattle.heap_terms.specs.WellFormed.{IsWellFormed, IsLiving, HoldsLiving, IsOpenPage}
-use Rattle.heap_laws.proofs.WellFormed.LivingValues.{cell_living, AreLiving-zeros, AreLiving-nil, IsLivingOrUnbound-living}
+use Rattle.heap_terms.specs.Regions.{Make, wish_of, is_small, pages_needed, run_has_room, large_page, with_large, entry_has_room, page_has_room, has_room, place_for, pages_after, run_used, counting, committed, destination_of, with_destination, initial_contents}
+use Rattle.heap_terms.specs.Living.{IsLiving, HoldsLiving, IsShaped}
+use Rattle.heap_terms.specs.Valid.{IsInRange}
+use Rattle.heap_terms.specs.WellFormed.{IsWellFormed, IsOpenPage}
+use Rattle.heap_laws.proofs.WellFormed.LivingValues.{cell_living, AreLiving-zeros, AreLiving-nil, AreBelow-all, AreBelow-nil, IsLivingOrUnbound-living}
+use Rattle.heap_laws.proofs.WellFormed.LargeAdded.{HasRun, has_run, GoesInto, without_run, heap_put, put-kept}
+use Rattle.heap_laws.proofs.WellFormed.Counting.{counting-off, counting-kept}
 use Rattle.heap_laws.proofs.WellFormed.ObjectAdded.{GoesOn, pages_with, pushed-kept}
 use Rattle.heap_laws.proofs.WellFormed.Threads.{with_cell-kept, open_page_used}
-
--- with `auto` at 0 nothing is counted
-pub counting-off : (p : Program) (b : NamedHeap) (t size : ℕ) → p.auto ≡ 0 → counting p b t size ≡ b
-counting-off p b t size e = rw (eq-eqb p.auto 0 e) refl
 
 -- the new object is of the kind and the size that were wished for
 pub initial_kind : (a : NamedHeap) (t : ℕ) (c : Command) (kind : Kind) (n seed : ℕ) → wish_of c ≡ Make kind n seed → kind_of (initial_contents a t c) ≡ kind
@@ -57,6 +57,17 @@ initial_living p a t (commands.NewWords d m v) w l = tt
 initial_living p a t (commands.NewWeak d x) w l = IsLivingOrUnbound-living a.objects (cell_value a t x) (cell_living p a t x w l)
 initial_living p a t (commands.NewTable d v b) w l = (AreLiving-nil a.objects, AreLiving-nil a.objects)
 initial_living p a t _ w l = tt
+
+-- and has the shape of its kind
+pub initial_shape : (a : NamedHeap) (t : ℕ) (c : Command) → IsInRange c → IsShaped (initial_contents a t c)
+initial_shape a t (commands.NewCons d x y) r = tt
+initial_shape a t (commands.NewVector d m) r = omega (arith, length-replicate m zero_value, r.1)
+initial_shape a t (commands.NewInstance d m) r = omega (arith, length-replicate m zero_value, r.1)
+initial_shape a t (commands.NewClosure d m) r = omega (arith, length-replicate m zero_value, r.1)
+initial_shape a t (commands.NewWords d m w) r = (omega (arith, length-replicate m w, r.1), AreBelow-all (2 ^ 64) m w (omega arith) r.2)
+initial_shape a t (commands.NewWeak d x) r = tt
+initial_shape a t (commands.NewTable d w b) r = (r.1, r.2, omega arith, λ i j d below inside. absurd (omega arith))
+initial_shape a t _ r = (omega arith, AreBelow-nil (2 ^ 64) (omega arith))
 
 -- a thread's open page with room for an object of a type and a size
 pub record HasPage (a : NamedHeap) (t : ℕ) (ty : PageType) (size : ℕ) : Type 0 where
@@ -113,21 +124,32 @@ threads_small a t size small = rw small (set-get_or a.threads t (ended_thread fr
 abbrev pub new_object : NamedHeap → ℕ → Command → ℕ → Object
 new_object a t c place = record { generation = 0; place = place; contents = initial_contents a t c }
 
+-- the heap with the object, before the destination refers to it
+abbrev pub heap_built : (a : NamedHeap) (t : ℕ) (c : Command) (kind : Kind) (n : ℕ) → HasPage a t (page_type_of kind) (size_of kind n) → NamedHeap
+heap_built a t c kind n h = heap_with a (a.objects ++ Some (new_object a t c (page_words * h.page + h.fill)) ∷ []) a.threads
+    (set a.pages h.page (Used (page_type_of kind) 0 (h.fill + size_of kind n) h.page 1))
+
 -- The heap after the commit of a small object: the object has the next name and begins at the fill of its
--- thread's open page, which rises by its size, and the destination refers to it.
-pub committed-small : (p : Program) (a : NamedHeap) (t : ℕ) (c : Command) (kind : Kind) (n : ℕ) → p.auto ≡ 0 → is_small (size_of kind n) ≡ true →
+-- thread's open page, which rises by its size, the destination refers to it, and its words are counted.
+pub committed-counting : (p : Program) (a : NamedHeap) (t : ℕ) (c : Command) (kind : Kind) (n : ℕ) → is_small (size_of kind n) ≡ true →
     (h : HasPage a t (page_type_of kind) (size_of kind n)) →
-    committed p a t c kind n ≡ with_destination (heap_with a (a.objects ++ Some (new_object a t c (page_words * h.page + h.fill)) ∷ []) a.threads
-    (set a.pages h.page (Used (page_type_of kind) 0 (h.fill + size_of kind n) h.page 1))) t (destination_of c) (values.Ref (length a.objects))
+    committed p a t c kind n ≡ counting p (with_destination (heap_built a t c kind n h) t (destination_of c) (values.Ref (length a.objects))) t (size_of kind n)
 unfolding committed
-committed-small p a t c kind n auto small h =
+committed-counting p a t c kind n small h =
     let size = size_of kind n in
     let objects : ℕ → List (Option Object) = λ place. a.objects ++ Some (new_object a t c place) ∷ [] in
-    let cell : NamedHeap → NamedHeap = λ b. with_destination b t (destination_of c) (values.Ref (length a.objects)) in
-    counting-off p (cell (heap_with a (objects (place_for a t kind size)) (set a.threads t (run_used (thread_at a t) size)) (pages_after a t kind size))) t size auto
-    ∙ ap (λ (place : ℕ). cell (heap_with a (objects place) (set a.threads t (run_used (thread_at a t) size)) (pages_after a t kind size))) (place_small a t kind size small h)
+    let cell : NamedHeap → NamedHeap = λ b. counting p (with_destination b t (destination_of c) (values.Ref (length a.objects))) t size in
+    ap (λ (place : ℕ). cell (heap_with a (objects place) (set a.threads t (run_used (thread_at a t) size)) (pages_after a t kind size))) (place_small a t kind size small h)
     ∙ ap (λ (threads : List Thread). cell (heap_with a (objects (page_words * h.page + h.fill)) threads (pages_after a t kind size))) (threads_small a t size small)
     ∙ ap (λ (pages : List Entry). cell (heap_with a (objects (page_words * h.page + h.fill)) a.threads pages)) (pages_small a t kind size small h)
+
+-- where `auto` is 0
+pub committed-small : (p : Program) (a : NamedHeap) (t : ℕ) (c : Command) (kind : Kind) (n : ℕ) → p.auto ≡ 0 → is_small (size_of kind n) ≡ true →
+    (h : HasPage a t (page_type_of kind) (size_of kind n)) →
+    committed p a t c kind n ≡ with_destination (heap_built a t c kind n h) t (destination_of c) (values.Ref (length a.objects))
+committed-small p a t c kind n auto small h =
+    committed-counting p a t c kind n small h
+    ∙ counting-off p (with_destination (heap_built a t c kind n h) t (destination_of c) (values.Ref (length a.objects))) t (size_of kind n) auto
 
 -- its object goes on that page
 pub goes_on : (a : NamedHeap) (t : ℕ) (c : Command) (kind : Kind) (n seed : ℕ) → wish_of c ≡ Make kind n seed → is_small (size_of kind n) ≡ true →
@@ -143,16 +165,15 @@ goes_on a t c kind n seed wish small h =
       room = rw (k, m) h.room;
     }
 
--- the heap with the object, before the destination refers to it
-pub built-kept : (p : Program) (a : NamedHeap) (t : ℕ) (c : Command) (kind : Kind) (n seed : ℕ) → IsWellFormed p a → t < length p.threads →
+-- the heap with the object is well-formed
+pub built-kept : (p : Program) (a : NamedHeap) (t : ℕ) (c : Command) (kind : Kind) (n seed : ℕ) → IsWellFormed p a → t < length p.threads → IsInRange c →
     wish_of c ≡ Make kind n seed → is_small (size_of kind n) ≡ true → (h : HasPage a t (page_type_of kind) (size_of kind n)) →
-    IsWellFormed p (heap_with a (a.objects ++ Some (new_object a t c (page_words * h.page + h.fill)) ∷ []) a.threads
-    (set a.pages h.page (Used (page_type_of kind) 0 (h.fill + size_of kind n) h.page 1)))
-built-kept p a t c kind n seed w l wish small h =
+    IsWellFormed p (heap_built a t c kind n h)
+built-kept p a t c kind n seed w l in_range wish small h =
     let o = new_object a t c (page_words * h.page + h.fill) in
     let k = initial_kind a t c kind n seed wish in
     let m = initial_payload a t c kind n seed wish in
-    let kept = pushed-kept p a o h.page h.fill w (goes_on a t c kind n seed wish small h) (initial_living p a t c w l) in
+    let kept = pushed-kept p a o h.page h.fill w (goes_on a t c kind n seed wish small h) (initial_living p a t c w l) (initial_shape a t c in_range) in
     let type_is : page_type_of (kind_of o.contents) ≡ page_type_of kind = ap (λ (x : Kind). page_type_of x) k in
     let size_is : words_of_object o ≡ size_of kind n = rw (k, m) refl in
     let same : pages_with a.pages o h.page h.fill ≡ set a.pages h.page (Used (page_type_of kind) 0 (h.fill + size_of kind n) h.page 1) =
@@ -167,12 +188,75 @@ with_destination-kept p b t None v w living = w
 with_destination-kept p b t (Some d) v w living = with_cell-kept p b t d v w living
 
 -- the commit of a small object
-pub committed-kept : (p : Program) (a : NamedHeap) (t : ℕ) (c : Command) (kind : Kind) (n seed : ℕ) → IsWellFormed p a → p.auto ≡ 0 → t < length p.threads →
+pub committed_small-kept : (p : Program) (a : NamedHeap) (t : ℕ) (c : Command) (kind : Kind) (n seed : ℕ) → IsWellFormed p a → t < length p.threads → IsInRange c →
     wish_of c ≡ Make kind n seed → is_small (size_of kind n) ≡ true → has_room a t kind (size_of kind n) ≡ true → IsWellFormed p (committed p a t c kind n)
-committed-kept p a t c kind n seed w auto l wish small room =
+committed_small-kept p a t c kind n seed w l in_range wish small room =
     let h = has_page p a t kind (size_of kind n) w small room in
+    let b = heap_built a t c kind n h in
     let o = new_object a t c (page_words * h.page + h.fill) in
-    let b = heap_with a (a.objects ++ Some o ∷ []) a.threads (set a.pages h.page (Used (page_type_of kind) 0 (h.fill + size_of kind n) h.page 1)) in
     let living : IsLiving b.objects (values.Ref (length a.objects)) = rw (get_or_push a.objects (Some o) None (length a.objects) refl) refl in
-    let kept = with_destination-kept p b t (destination_of c) (values.Ref (length a.objects)) (built-kept p a t c kind n seed w l wish small h) living in
-    subst (λ (x : NamedHeap). IsWellFormed p x) (sym (committed-small p a t c kind n auto small h)) kept
+    let kept = with_destination-kept p b t (destination_of c) (values.Ref (length a.objects)) (built-kept p a t c kind n seed w l in_range wish small h) living in
+    subst (λ (x : NamedHeap). IsWellFormed p x) (sym (committed-counting p a t c kind n small h))
+    (counting-kept p (with_destination b t (destination_of c) (values.Ref (length a.objects))) t (size_of kind n) kept)
+
+-- a large object has room in its thread's open run
+pub large_run : (p : Program) (a : NamedHeap) (t : ℕ) (kind : Kind) (size : ℕ) → IsWellFormed p a → is_small size ≡ false → has_room a t kind size ≡ true →
+    HasRun a t (page_type_of kind) (pages_needed size)
+large_run p a t kind size w large room =
+    let in_run : run_has_room a.pages (thread_at a t).open_run (page_type_of kind) size ≡ true = rw large at room in
+    has_run p a t (page_type_of kind) size w in_run
+
+-- the heap after the commit of a large object, which uses the run up
+pub committed_large-counting : (p : Program) (a : NamedHeap) (t : ℕ) (c : Command) (kind : Kind) (n seed first : ℕ) → wish_of c ≡ Make kind n seed →
+    is_small (size_of kind n) ≡ false → (thread_at a t).open_run ≡ Some first →
+    committed p a t c kind n
+    ≡ counting p (with_destination (heap_put a t (new_object a t c (page_words * first)) first) t (destination_of c) (values.Ref (length a.objects))) t (size_of kind n)
+unfolding committed
+committed_large-counting p a t c kind n seed first wish large open_is =
+    let size = size_of kind n in
+    let o = new_object a t c (page_words * first) in
+    let cell : NamedHeap → NamedHeap = λ b. counting p (with_destination b t (destination_of c) (values.Ref (length a.objects))) t size in
+    let heap : ℕ → Thread → List Entry → NamedHeap = λ place th pages. cell (heap_with a (a.objects ++ Some (new_object a t c place) ∷ []) (set a.threads t th) pages) in
+    let size_is : size ≡ words_of_object o = rw (initial_kind a t c kind n seed wish, initial_payload a t c kind n seed wish) refl in
+    let at : large_page a t ≡ first = rw open_is refl in
+    let place_is : place_for a t kind size ≡ page_words * first = rw large (ap (λ (x : ℕ). page_words * x) at) in
+    let thread_is : run_used (thread_at a t) size ≡ without_run (thread_at a t) = rw large refl in
+    let pages_are : pages_after a t kind size ≡ with_large a.pages first (words_of_object o) =
+    pages_large a t kind size large ∙ ap (λ (x : ℕ). with_large a.pages x size) at ∙ ap (λ (x : ℕ). with_large a.pages first x) size_is in
+    ap (λ (x : ℕ). heap x (run_used (thread_at a t) size) (pages_after a t kind size)) place_is
+    ∙ ap (λ (x : Thread). heap (page_words * first) x (pages_after a t kind size)) thread_is
+    ∙ ap (λ (x : List Entry). heap (page_words * first) (without_run (thread_at a t)) x) pages_are
+  where
+    pages_large : (a : NamedHeap) (t : ℕ) (kind : Kind) (size : ℕ) → is_small size ≡ false → pages_after a t kind size ≡ with_large a.pages (large_page a t) size
+    pages_large a t kind size large = rw large refl
+
+pub committed_large-kept : (p : Program) (a : NamedHeap) (t : ℕ) (c : Command) (kind : Kind) (n seed : ℕ) → IsWellFormed p a → t < length p.threads → IsInRange c →
+    wish_of c ≡ Make kind n seed → is_small (size_of kind n) ≡ false → has_room a t kind (size_of kind n) ≡ true → IsWellFormed p (committed p a t c kind n)
+committed_large-kept p a t c kind n seed w l in_range wish large room =
+    let h = large_run p a t kind (size_of kind n) w large room in
+    let o = new_object a t c (page_words * h.first) in
+    let b = heap_put a t o h.first in
+    let kind_is = initial_kind a t c kind n seed wish in
+    let size_is : words_of_object o ≡ size_of kind n = rw (kind_is, initial_payload a t c kind n seed wish) refl in
+    let goes : GoesInto a.pages o h.first = record {
+      large = rw size_is large;
+      young = refl;
+      place = refl;
+      inside = rw size_is h.inside;
+      each = (let each : (i : ℕ) → i < pages_needed (size_of kind n) → entry_at a.pages (h.first + i) ≡ Used (page_type_of (kind_of o.contents)) 0 0 h.first (pages_needed (size_of kind n)) =
+          λ i l. h.each i l ∙ ap (λ (x : Kind). Used (page_type_of x) 0 0 h.first (pages_needed (size_of kind n))) (sym kind_is) in
+          rw size_is each);
+    } in
+    let living : IsLiving b.objects (values.Ref (length a.objects)) = rw (get_or_push a.objects (Some o) None (length a.objects) refl) refl in
+    let kept = with_destination-kept p b t (destination_of c) (values.Ref (length a.objects))
+    (put-kept p a t o h.first w goes h.open_is (initial_living p a t c w l) (initial_shape a t c in_range)) living in
+    subst (λ (x : NamedHeap). IsWellFormed p x) (sym (committed_large-counting p a t c kind n seed h.first wish large h.open_is))
+    (counting-kept p (with_destination b t (destination_of c) (values.Ref (length a.objects))) t (size_of kind n) kept)
+
+-- every commit
+pub committed-kept : (p : Program) (a : NamedHeap) (t : ℕ) (c : Command) (kind : Kind) (n seed : ℕ) → IsWellFormed p a → t < length p.threads → IsInRange c →
+    wish_of c ≡ Make kind n seed → has_room a t kind (size_of kind n) ≡ true → IsWellFormed p (committed p a t c kind n)
+committed-kept p a t c kind n seed w l in_range wish room = elim (cases_Bool (is_small (size_of kind n))) [
+  | inl small ↦ committed_small-kept p a t c kind n seed w l in_range wish small room
+  | inr large ↦ committed_large-kept p a t c kind n seed w l in_range wish large room
+]

@@ -1,7 +1,7 @@
 -- Living values stay living while objects are added or changed, and fields and cells hold living values.
-use Rattle.std.proofs.Common.{◌≡◌, ℕ, zero, suc, ◌<◌, ◌≤◌, List, [], ◌∷◌, ◌++◌, length, Option, Some, None, inl, inr, refl, subst, arith, set, replicate, map, lit<}
+use Rattle.std.proofs.Common.{◌≡◌, ℕ, zero, suc, ◌<◌, ◌≤◌, List, [], ◌∷◌, ◌++◌, length, Option, Some, None, inl, inr, refl, subst, arith, set, replicate, map, take, lit<}
 use Rattle.std.proofs.lemmas.Bool.{cases_lt}
-use Rattle.std.proofs.lemmas.List.{get_or-replicate, get_or_past, length-replicate}
+use Rattle.std.proofs.lemmas.List.{get_or-replicate, get_or-take, get_or_past, length-replicate, length-take}
 use Rattle.std.specs.Prelude.{IsSome, slice_index_or}
 use Rattle.heap_terms.specs.declared.cells.Cell.{Cell}
 use Rattle.heap_terms.specs.declared.cells.Cell.TheVariants.{Stack, Exact, Shared}
@@ -11,8 +11,8 @@ use Rattle.heap_terms.specs.declared.programs.Program.{Program}
 use Rattle.heap_terms.specs.Cells.{cell_value}
 use Rattle.heap_terms.specs.Heap.{NamedHeap, object_at, zero_value}
 use Rattle.heap_terms.specs.Objects.{Object, Contents, ConsOf, VectorOf, InstanceOf, ClosureOf, WordsOf, WeakTo, TableOf, fields_of}
-use Rattle.heap_terms.specs.Simple.{with_field}
-use Rattle.heap_terms.specs.WellFormed.{IsLiving, IsLivingOrUnbound, AreLiving, HoldsLiving, IsWellFormed}
+use Rattle.heap_terms.specs.Referents.{with_field}
+use Rattle.heap_terms.specs.WellFormed.{IsLiving, IsLivingOrUnbound, AreLiving, HoldsLiving, AreBelow, IsWellFormed}
 use Rattle.heap_laws.proofs.Lists.Places.{set_cases, push_cases}
 
 -- each object of the first list is there in the second
@@ -66,11 +66,49 @@ AreLiving-zeros objects n = λ i. elim (cases_lt i n) [
 pub AreLiving-nil : (objects : List (Option Object)) → AreLiving objects []
 AreLiving-nil objects = λ i. zero_living objects
 
+pub AreLiving-cons : (objects : List (Option Object)) (x : Value) (vs : List Value) → IsLiving objects x → AreLiving objects vs → AreLiving objects (x ∷ vs)
+AreLiving-cons objects x vs h rest zero = h
+AreLiving-cons objects x vs h rest (suc i) = rest i
+
 pub AreLiving-set : (objects : List (Option Object)) (vs : List Value) (i : ℕ) (v : Value) → AreLiving objects vs → IsLiving objects v →
     AreLiving objects (set vs i v)
 AreLiving-set objects vs i v h living = λ j. elim (set_cases vs i j v zero_value) [
   | inl e ↦ rw e (h j)
   | inr e ↦ rw e.2 living
+]
+
+-- numbers below a bound
+pub AreBelow-nil : (bound : ℕ) → 0 < bound → AreBelow bound []
+AreBelow-nil bound h = λ i. h
+
+pub AreBelow-all : (bound n w : ℕ) → 0 < bound → w < bound → AreBelow bound (replicate n w)
+AreBelow-all bound n w h l = λ i. elim (cases_lt i n) [
+  | inl inside ↦ rw (get_or-replicate n i w 0 inside) l
+  | inr past ↦ rw (get_or_past (replicate n w) i 0 (omega (arith, length-replicate n w))) h
+]
+
+pub AreBelow-zeros : (bound n : ℕ) → 0 < bound → AreBelow bound (replicate n 0)
+AreBelow-zeros bound n h = AreBelow-all bound n 0 h h
+
+pub AreBelow-set : (bound : ℕ) (ws : List ℕ) (i w : ℕ) → AreBelow bound ws → w < bound → AreBelow bound (set ws i w)
+AreBelow-set bound ws i w h l = λ j. elim (set_cases ws i j w 0) [
+  | inl e ↦ rw e (h j)
+  | inr e ↦ rw e.2 l
+]
+
+pub AreBelow-push : (bound : ℕ) (ws : List ℕ) (w : ℕ) → AreBelow bound ws → w < bound → AreBelow bound (ws ++ w ∷ [])
+AreBelow-push bound ws w h l = λ j. elim (push_cases ws j w 0) [
+  | inl e ↦ rw e.1 (h j)
+  | inr e ↦ rw e.1 l
+]
+
+pub AreBelow-take : (bound : ℕ) (ws : List ℕ) (n : ℕ) → AreBelow bound ws → AreBelow bound (take n ws)
+AreBelow-take bound ws n h = λ j. elim (cases_lt j n) [
+  | inl inside ↦ rw (get_or-take n ws j 0 inside) (h j)
+  | inr past ↦ (
+      let most : length (take n ws) ≤ j = omega (arith, length-take n ws) in
+      let zero : 0 < bound = (let first = h 0 in omega arith) in
+      rw (get_or_past (take n ws) j 0 most) zero)
 ]
 
 -- the fields of an object that holds living values
@@ -93,7 +131,8 @@ fields_living objects (TableOf w b pairs) vs e h = cc
 pub with_field_living : (objects : List (Option Object)) (k : Contents) (i : ℕ) (v : Value) → HoldsLiving objects k → IsLiving objects v →
     HoldsLiving objects (with_field k i v)
 with_field_living objects (ConsOf a b) zero v h living = (living, h.1)
-with_field_living objects (ConsOf a b) (suc i) v h living = (h.0, living)
+with_field_living objects (ConsOf a b) (suc zero) v h living = (h.0, living)
+with_field_living objects (ConsOf a b) (suc (suc i)) v h living = h
 with_field_living objects (VectorOf vs) i v h living = AreLiving-set objects vs i v h living
 with_field_living objects (InstanceOf vs) i v h living = AreLiving-set objects vs i v h living
 with_field_living objects (ClosureOf vs) i v h living = AreLiving-set objects vs i v h living

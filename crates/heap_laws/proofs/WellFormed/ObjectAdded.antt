@@ -1,20 +1,26 @@
 -- A well-formed heap stays well-formed when a small object is put on its thread's open page.
-use Rattle.std.proofs.Common.{◌≡◌, ℕ, ◌+◌, ◌-◌, ◌*◌, ◌/◌, ◌%◌, ◌<◌, ◌≤◌, List, [], ◌∷◌, ◌++◌, length, Option, Some, None, true, ◌⊎◌, inl, inr, refl, sym, ◌∙◌, subst, ap, arith, set}
+use Rattle.std.proofs.Common.{◌≡◌, ℕ, ◌+◌, ◌-◌, ◌*◌, ◌/◌, ◌%◌, ◌<◌, ◌≤◌, List, [], ◌∷◌, ◌++◌, length, Option, Some, None, true, ◌≢◌, ◌⊎◌, inl, inr, refl, sym, ◌∙◌, subst, ap, arith, set}
 use Rattle.std.proofs.lemmas.Bool.{cases_lt, cases_Bool, cases_order, false≢true}
 use Rattle.std.proofs.lemmas.List.{length-set, get_or-set_same, get_or_push, get_or_past}
+use Rattle.std.proofs.lemmas.List.Elements.{All-weaker}
+use Rattle.std.specs.List.{All}
 use Rattle.heap_terms.specs.declared.kinds.PageType.{PageType}
 use Rattle.heap_terms.specs.declared.pages.Entry.{Entry}
 use Rattle.heap_terms.specs.declared.pages.Entry.TheVariants.{Free, Used}
 use Rattle.heap_terms.specs.declared.programs.Program.{Program}
-use Rattle.heap_terms.specs.Heap.{NamedHeap, Thread, object_at, entry_at, thread_at, fill_of}
+use Rattle.heap_terms.specs.Heap.{NamedHeap, Thread, object_at, entry_at, thread_at, fill_of, open_page}
 use Rattle.heap_terms.specs.Layout.{page_words, page_type_of}
 use Rattle.heap_terms.specs.Objects.{Object, kind_of, payload_of, words_of_object}
 use Rattle.heap_terms.specs.Regions.{is_small, pages_needed}
-use Rattle.heap_terms.specs.WellFormed.{IsWellFormed, IsThread, HoldsLiving, IsPlaced, IsOnPage, IsPageOfRun, AreApart, IsFill, IsOwned}
-use Rattle.heap_laws.proofs.Lists.Places.{set_cases, push_cases, IfSome-at, IfSome-from}
+use Rattle.heap_terms.specs.Living.{HoldsLiving, IsShaped}
+use Rattle.heap_terms.specs.OnPages.{IsPlaced, IsOnPage, IsPageOfRun, AreApart, IsFill, IsEntry, IsInRun}
+use Rattle.heap_terms.specs.Sound.{IsSound, IsObject, IsFinalizer}
+use Rattle.heap_terms.specs.WellFormed.{IsWellFormed, IsThread, IsOpenPage, IsOpenRun}
+use Rattle.heap_laws.proofs.Lists.Places.{set_cases, push_cases, IfSome-at}
 use Rattle.heap_laws.proofs.WellFormed.LivingValues.{AllStay, AreLiving-stays, HoldsLiving-stays, push_stays}
-use Rattle.heap_laws.proofs.WellFormed.PagesStay.{EntryStays-same, PagesStay, IsPlaced-stays, size_even, size_least, needs_two, needs_enough}
+use Rattle.heap_laws.proofs.WellFormed.PagesStay.{EntryStays-same, PagesStay, IsPlaced-stays, StaysInRun-from, IsInRun-stays, size_even, size_least, needs_two, needs_enough}
 use Rattle.heap_laws.proofs.WellFormed.RegionOpened.{pages_thread}
+use Rattle.heap_laws.proofs.WellFormed.Threads.{HasCells, cells_of, thread_from}
 
 -- the entry of the page after its fill rose
 pub filled_entry : (pages : List Entry) (page : ℕ) (ty : PageType) (fill size i : ℕ) → entry_at pages page ≡ Used ty 0 fill page 1 →
@@ -122,103 +128,143 @@ placed_new pages o page fill g even =
         let f : entry_at (pages_with pages o page fill) x ≡ new = ap (λ (z : ℕ). entry_at (pages_with pages o page fill) z) same ∙ e in
         subst (λ (z : Entry). IsOnPage o z) (sym f) h
 
--- what belongs to an object belongs to it after a push
-pub owned_stays : (objects : List (Option Object)) (o : Object) (index : ℕ) → IsOwned objects index → IsOwned (objects ++ Some o ∷ []) index
-owned_stays objects o index h = elim (push_cases objects h.0 (Some o) None) [
-  | inl same ↦ (h.0, h.1, same.1 ∙ h.2, h.3)
-  | inr new ↦ (let past : object_at objects h.0 ≡ None = get_or_past objects h.0 None (omega (arith, new.0)) in
-      let never : None ≡ Some h.1 = sym past ∙ h.2 in cc)
+-- the fill of a page, free or not
+pub entry_fill : (e : Entry) → IsEntry e → IsFill (fill_of e)
+entry_fill Free h = record { even = refl; most = omega arith }
+entry_fill (Used ty g fill first n) h = h.1
+
+-- an object is sound after others came and pages were filled
+object_stays : (old new : List (Option Object)) (pages pages' : List Entry) (o : Object) → AllStay old new → IsPlaced pages' o → IsObject old pages o → IsObject new pages' o
+object_stays old new pages pages' o stay placed h = record {
+  generation = h.generation;
+  shape = h.shape;
+  contents = HoldsLiving-stays old new stay o.contents h.contents;
+  placed = placed;
+}
+
+-- and so are finalizers
+pub finalizers_stay : (old new : List (Option Object)) (fs : List (ℕ × ℕ)) → AllStay old new → All (IsFinalizer old) fs → All (IsFinalizer new) fs
+finalizers_stay old new fs stay h = All-weaker (IsFinalizer old) (IsFinalizer new) (λ entry f. record { there = stay entry.0 f.there; id = f.id }) fs h
+
+-- the threads' cells stay
+pub cells_stay : (old new : List (Option Object)) (th : Thread) → AllStay old new → HasCells old th → HasCells new th
+cells_stay old new th stay h = record {
+  stack_length = h.stack_length;
+  exact_length = h.exact_length;
+  raws_length = h.raws_length;
+  stack = AreLiving-stays old new stay th.stack h.stack;
+  exact = AreLiving-stays old new stay th.exact h.exact;
+  raws = h.raws;
+  pins = h.pins;
+  pins_most = h.pins_most;
+  owed = h.owed;
+  inhibits = h.inhibits;
+}
+
+pub thread_stays : (old new : List (Option Object)) (pages : List Entry) (th : Thread) → AllStay old new → IsThread old pages th → IsThread new pages th
+thread_stays old new pages th stay h = thread_from new pages th (cells_stay old new th stay (cells_of h))
+    (λ ty x e. IfSome-at (λ (x : ℕ). IsOpenPage ty x (entry_at pages x)) (open_page th ty) x e (h.open_pages ty))
+    (λ x e. IfSome-at (IsOpenRun pages) th.open_run x e h.open_run)
+
+-- what is new among the objects of a longer list, and what was there before
+pub by_name : (objects : List (Option Object)) (o : Object) (P : Object → Type 0) → ((name : ℕ) (q : Object) → object_at objects name ≡ Some q → P q) → P o →
+    (name : ℕ) (q : Object) → object_at (objects ++ Some o ∷ []) name ≡ Some q → P q
+by_name objects o P old new name q e = elim (push_cases objects name (Some o) None) [
+  | inl same ↦ old name q (sym same.1 ∙ e)
+  | inr here ↦ (let f : Some o ≡ Some q = sym here.1 ∙ e in let is : o ≡ q = cc in subst P is new)
 ]
 
--- the words below the fill
-pub owned_new : (objects : List (Option Object)) (pages : List Entry) (o : Object) (page fill : ℕ) → GoesOn pages o page fill →
-    ((i x : ℕ) → x < fill_of (entry_at pages i) → IsOwned objects (page_words * i + x)) →
-    (i x : ℕ) → x < fill_of (entry_at (pages_with pages o page fill) i) → IsOwned (objects ++ Some o ∷ []) (page_words * i + x)
-owned_new objects pages o page fill g owned i x l =
-    elim (filled_entry pages page (page_type_of (kind_of o.contents)) fill (words_of_object o) i g.entry) [
-      | inl same ↦ owned_stays objects o (page_words * i + x) (owned i x (rw same at l))
-      | inr here ↦ (
-          let below : x < fill + words_of_object o = rw here.2 at l in
-          elim (cases_lt x fill) [
-            | inl old ↦ (
-                let old' : x < fill_of (entry_at pages i) = rw here.1 old in
-                owned_stays objects o (page_words * i + x) (owned i x old'))
-            | inr new ↦ (
-                let place = g.place in
-                let at = here.0 in
-                (length objects, o, get_or_push objects (Some o) None (length objects) refl, record { from = omega arith; below = omega arith }))
-          ])
-    ]
+-- two objects of a longer list are apart if the old ones are, and each of them from the new one
+pub pushed_apart : (objects : List (Option Object)) (o : Object) →
+    ((x y : ℕ) (q r : Object) → x ≢ y → object_at objects x ≡ Some q → object_at objects y ≡ Some r → AreApart q r) →
+    ((x : ℕ) (q : Object) → object_at objects x ≡ Some q → AreApart q o) →
+    (x y : ℕ) (q r : Object) → x ≢ y → object_at (objects ++ Some o ∷ []) x ≡ Some q → object_at (objects ++ Some o ∷ []) y ≡ Some r → AreApart q r
+pushed_apart objects o old new x y q r differ e f = elim (push_cases objects x (Some o) None) [
+  | inl same ↦ elim (push_cases objects y (Some o) None) [
+    | inl same' ↦ old x y q r differ (sym same.1 ∙ e) (sym same'.1 ∙ f)
+    | inr here ↦ (
+        let g : Some o ≡ Some r = sym here.1 ∙ f in
+        let is : o ≡ r = cc in
+        subst (λ (z : Object). AreApart q z) is (new x q (sym same.1 ∙ e)))
+  ]
+  | inr here ↦ elim (push_cases objects y (Some o) None) [
+    | inl same' ↦ (
+        let g : Some o ≡ Some q = sym here.1 ∙ e in
+        let is : o ≡ q = cc in
+        subst (λ (z : Object). AreApart z r) is (swapped r o (new y r (sym same'.1 ∙ f))))
+    | inr here' ↦ absurd (differ (here.0 ∙ sym here'.0))
+  ]
+]
+  where
+    swapped : (q r : Object) → AreApart q r → AreApart r q
+    swapped q r (inl h) = inr h
+    swapped q r (inr h) = inl h
+
+-- a sound object of generation 0 is added, on pages on which the others lie as before
+pub added-sound : (a : NamedHeap) (o : Object) (pages : List Entry) → IsSound a → ((q : Object) → IsPlaced a.pages q → IsPlaced pages q) →
+    ((page : ℕ) → IsEntry (entry_at pages page)) → ((page : ℕ) → IsInRun pages page (entry_at pages page)) →
+    o.generation ≡ 0 → IsShaped o.contents → HoldsLiving a.objects o.contents → IsPlaced pages o →
+    ((x : ℕ) (q : Object) → object_at a.objects x ≡ Some q → AreApart q o) →
+    IsSound (record a { objects = a.objects ++ Some o ∷ []; pages = pages })
+added-sound a o pages w others entries runs young shape living placed apart =
+    let objects = a.objects ++ Some o ∷ [] in
+    let stay : AllStay a.objects objects = push_stays a.objects o in
+    record {
+      objects = by_name a.objects o (λ q. IsObject objects pages q)
+          (λ name q e. object_stays a.objects objects a.pages pages q stay (others q (w.objects name q e).placed) (w.objects name q e))
+          (record { generation = rw young (omega arith); shape = shape; contents = HoldsLiving-stays a.objects objects stay o.contents living; placed = placed });
+      apart = pushed_apart a.objects o w.apart apart;
+      entries = entries;
+      runs = runs;
+      finalizers = finalizers_stay a.objects objects a.finalizers stay w.finalizers;
+      queue = w.queue;
+    }
 
 -- an object is put on its page
 pub pushed-kept : (p : Program) (a : NamedHeap) (o : Object) (page fill : ℕ) → IsWellFormed p a → GoesOn a.pages o page fill →
-    HoldsLiving a.objects o.contents →
+    HoldsLiving a.objects o.contents → IsShaped o.contents →
     IsWellFormed p (record a { objects = a.objects ++ Some o ∷ []; pages = pages_with a.pages o page fill })
-pushed-kept p a o page fill w g living =
+pushed-kept p a o page fill w g living shape =
     let ty = page_type_of (kind_of o.contents) in
     let objects = a.objects ++ Some o ∷ [] in
     let pages = pages_with a.pages o page fill in
     let stay : AllStay a.objects objects = push_stays a.objects o in
     let pages_stay : PagesStay a.pages pages = filled_stays a.pages page ty fill (words_of_object o) g.entry in
-    let even : fill % 2 ≡ 0 = even_of (entry_at a.pages page) g.entry (w.fills page) in
+    let fills : (i : ℕ) → IsFill (fill_of (entry_at a.pages i)) = λ i. entry_fill (entry_at a.pages i) (w.sound.entries i) in
+    let even : fill % 2 ≡ 0 = even_of (entry_at a.pages page) g.entry (fills page) in
     record {
+      sound = added-sound a o pages w.sound (λ q placed. IsPlaced-stays a.pages pages q pages_stay placed)
+          (λ i. elim (filled_entry a.pages page ty fill (words_of_object o) i g.entry) [
+            | inl same ↦ rw same (w.sound.entries i)
+            | inr here ↦ rw here.2 (
+                let size = size_even (kind_of o.contents) (payload_of o.contents) in
+                let room = g.room in
+                (omega arith, record { even = omega arith; most = omega arith }))
+          ])
+          (λ i. IsInRun-stays a.pages pages i pages_stay.lengths (λ j. StaysInRun-from (entry_at a.pages j) (entry_at pages j) (pages_stay.each j))
+          (entry_at a.pages i) (entry_at pages i) (StaysInRun-from (entry_at a.pages i) (entry_at pages i) (pages_stay.each i)) (w.sound.runs i)
+          (λ free. elim (filled_entry a.pages page ty fill (words_of_object o) i g.entry) [
+            | inl same ↦ rw (same, free) tt
+            | inr here ↦ (let never : Free ≡ Used ty 0 fill page 1 = sym free ∙ here.1 in cc)
+          ]))
+          g.young shape living (placed_new a.pages o page fill g even)
+          (λ x q e. apart_from_new a.pages q o page ty fill (w.sound.objects x q e).placed fills g.entry g.place g.room);
       pages_length = pages_stay.lengths ∙ w.pages_length;
       threads_length = w.threads_length;
       shared_length = w.shared_length;
-      threads = λ t l. living_thread a.objects objects pages (thread_at a t) stay (pages_thread a.objects a.pages pages (thread_at a t) pages_stay (w.threads t l));
+      cum_length = w.cum_length;
+      num_length = w.num_length;
+      threads = λ t l. thread_stays a.objects objects pages (thread_at a t) stay (pages_thread a.objects a.pages pages (thread_at a t) pages_stay (w.threads t l));
       shared = AreLiving-stays a.objects objects stay a.shared w.shared;
-      contents = λ x. elim (push_cases a.objects x (Some o) None) [
-        | inl same ↦ rw same.1 (IfSome-from (λ r. HoldsLiving objects r.contents) (object_at a.objects x)
-            (λ r f. HoldsLiving-stays a.objects objects stay r.contents (IfSome-at (λ r. HoldsLiving a.objects r.contents) (object_at a.objects x) r f (w.contents x))))
-        | inr new ↦ rw new.1 (HoldsLiving-stays a.objects objects stay o.contents living)
+      objects_collected = by_name a.objects o (λ q. q.generation ≤ 5) w.objects_collected (rw g.young (omega arith));
+      pages_collected = λ i. elim (filled_entry a.pages page ty fill (words_of_object o) i g.entry) [
+        | inl same ↦ rw same (w.pages_collected i)
+        | inr here ↦ rw here.2 (omega arith)
       ];
-      placed = λ x. elim (push_cases a.objects x (Some o) None) [
-        | inl same ↦ rw same.1 (IfSome-from (IsPlaced pages) (object_at a.objects x)
-            (λ r f. IsPlaced-stays a.pages pages r pages_stay (IfSome-at (IsPlaced a.pages) (object_at a.objects x) r f (w.placed x))))
-        | inr new ↦ rw new.1 (placed_new a.pages o page fill g even)
-      ];
-      apart = λ x y h. elim (push_cases a.objects x (Some o) None) [
-        | inl same ↦ elim (push_cases a.objects y (Some o) None) [
-          | inl same' ↦ rw (same.1, same'.1) (w.apart x y h)
-          | inr new' ↦ rw (same.1, new'.1) (IfSome-from (λ r. AreApart r o) (object_at a.objects x) (λ r f. apart_old x r f))
-        ]
-        | inr new ↦ elim (push_cases a.objects y (Some o) None) [
-          | inl same' ↦ rw (new.1, same'.1) (IfSome-from (AreApart o) (object_at a.objects y) (λ r f. swapped r (apart_old y r f)))
-          | inr new' ↦ absurd (h (new.0 ∙ sym new'.0))
-        ]
-      ];
-      fills = λ i. elim (filled_entry a.pages page ty fill (words_of_object o) i g.entry) [
-        | inl same ↦ rw same (w.fills i)
-        | inr here ↦ rw here.2 (
-            let size = size_even (kind_of o.contents) (payload_of o.contents) in
-            let room = g.room in
-            record { even = omega arith; most = omega arith })
-      ];
-      owned = owned_new a.objects a.pages o page fill g w.owned;
+      triggered = w.triggered;
       own_pages = w.own_pages;
       own_runs = w.own_runs;
-      owes_nothing = w.owes_nothing;
-      pins_nothing = w.pins_nothing;
     }
   where
     even_of : (e : Entry) → e ≡ Used (page_type_of (kind_of o.contents)) 0 fill page 1 → IsFill (fill_of e) → fill % 2 ≡ 0
     even_of e is h = (rw is at h).even
-
-    living_thread : (old new : List (Option Object)) (pages : List Entry) (th : Thread) → AllStay old new → IsThread old pages th → IsThread new pages th
-    living_thread old new pages th stay h = record {
-      stack_length = h.stack_length;
-      exact_length = h.exact_length;
-      raws_length = h.raws_length;
-      stack = AreLiving-stays old new stay th.stack h.stack;
-      exact = AreLiving-stays old new stay th.exact h.exact;
-      open_pages = h.open_pages;
-      open_run = h.open_run;
-    }
-
-    apart_old : (x : ℕ) (r : Object) → object_at a.objects x ≡ Some r → AreApart r o
-    apart_old x r f = apart_from_new a.pages r o page (page_type_of (kind_of o.contents)) fill
-        (IfSome-at (IsPlaced a.pages) (object_at a.objects x) r f (w.placed x)) w.fills g.entry g.place g.room
-
-    swapped : (r : Object) → AreApart r o → AreApart o r
-    swapped r (inl h) = inr h
-    swapped r (inr h) = inl h

@@ -10,7 +10,8 @@ use Rattle.heap_terms.specs.Heap.{entry_at}
 use Rattle.heap_terms.specs.Layout.{page_words, size_of}
 use Rattle.heap_terms.specs.Objects.{Object, kind_of, payload_of, words_of_object}
 use Rattle.heap_terms.specs.Regions.{is_small, pages_needed}
-use Rattle.heap_terms.specs.WellFormed.{IsOnPage, IsPageOfRun, IsPlaced, AreApart, IsOpenPage, IsOpenRunPage, IsOpenRun}
+use Rattle.heap_terms.specs.OnPages.{IsOnPage, IsPageOfRun, IsPlaced, AreApart, SaysOfRun, IsInRun}
+use Rattle.heap_terms.specs.WellFormed.{IsOpenPage, IsOpenRunPage, IsOpenRun}
 
 -- a size is an even number from 2 on
 pub size_even : (kind : Kind) (n : ℕ) → size_of kind n % 2 ≡ 0
@@ -93,11 +94,11 @@ IsOpenPage-stays ty page Free new s h = absurd h
 IsOpenPage-stays ty page (Used ty' g fill first n) Free s h = absurd s
 IsOpenPage-stays ty page (Used ty' g fill first n) (Used ty'' g' fill' first' n') s h = (s.0 ∙ h.0, s.1 ∙ h.1, s.2 ∙ h.2, s.3 ∙ h.3)
 
-pub IsOpenRunPage-stays : (start k : ℕ) (old new : Entry) → EntryStays old new → k ≢ 1 → IsOpenRunPage start k old → IsOpenRunPage start k new
-IsOpenRunPage-stays start k Free new s long h = absurd h
-IsOpenRunPage-stays start k (Used ty' g fill first n) Free s long h = absurd s
-IsOpenRunPage-stays start k (Used ty' g fill first n) (Used ty'' g' fill' first' n') s long h =
-    (s.1 ∙ h.0, s.5 (λ one. long (sym h.3 ∙ one)) ∙ h.1, s.2 ∙ h.2, s.3 ∙ h.3)
+pub IsOpenRunPage-stays : (ty : PageType) (start k : ℕ) (old new : Entry) → EntryStays old new → k ≢ 1 → IsOpenRunPage ty start k old → IsOpenRunPage ty start k new
+IsOpenRunPage-stays ty start k Free new s long h = absurd h
+IsOpenRunPage-stays ty start k (Used ty' g fill first n) Free s long h = absurd s
+IsOpenRunPage-stays ty start k (Used ty' g fill first n) (Used ty'' g' fill' first' n') s long h =
+    (s.0 ∙ h.0, s.1 ∙ h.1, s.5 (λ one. long (sym h.4 ∙ one)) ∙ h.2, s.2 ∙ h.3, s.3 ∙ h.4)
 
 -- every entry stays, and none is lost
 pub record PagesStay (old new : List Entry) : Type 0 where
@@ -116,11 +117,43 @@ IsPlaced-stays old new o s h = record {
 
 pub IsOpenRun-stays : (old new : List Entry) (first : ℕ) → PagesStay old new → IsOpenRun old first → IsOpenRun new first
 IsOpenRun-stays old new first s h = record {
+  ty = h.ty;
   k = h.k;
   long = h.long;
   inside = rw s.lengths h.inside;
-  each = λ i l. let two = h.long in IsOpenRunPage-stays first h.k (entry_at old (first + i)) (entry_at new (first + i)) (s.each (first + i)) (λ one. omega arith) (h.each i l);
+  each = λ i l. let two = h.long in IsOpenRunPage-stays h.ty first h.k (entry_at old (first + i)) (entry_at new (first + i)) (s.each (first + i)) (λ one. omega arith) (h.each i l);
 }
+
+-- a page stays one of its type, its generation and its run
+abbrev pub StaysInRun : Entry → Entry → Type 0
+StaysInRun Free new = Unit {0}
+StaysInRun (Used ty g fill first n) Free = ⊥
+StaysInRun (Used ty g fill first n) (Used ty' g' fill' first' n') = (ty' ≡ ty) × (g' ≡ g) × (first' ≡ first) × (n' ≡ n)
+
+pub StaysInRun-same : (e : Entry) → StaysInRun e e
+StaysInRun-same Free = tt
+StaysInRun-same (Used ty g fill first n) = (refl, refl, refl, refl)
+
+pub StaysInRun-from : (old new : Entry) → EntryStays old new → StaysInRun old new
+StaysInRun-from Free new s = tt
+StaysInRun-from (Used ty g fill first n) Free s = s
+StaysInRun-from (Used ty g fill first n) (Used ty' g' fill' first' n') s = (s.0, s.1, s.2, s.3)
+
+SaysOfRun-stays : (ty : PageType) (g first k : ℕ) (old new : Entry) → StaysInRun old new → SaysOfRun ty g first k old → SaysOfRun ty g first k new
+SaysOfRun-stays ty g first k Free new s h = absurd h
+SaysOfRun-stays ty g first k (Used ty' g' fill first' n) Free s h = absurd s
+SaysOfRun-stays ty g first k (Used ty' g' fill first' n) (Used ty'' g'' fill' first'' n') s h = (s.0 ∙ h.0, s.1 ∙ h.1, s.2 ∙ h.2, s.3 ∙ h.3)
+
+-- a page that was in use stays in its run, and of one that was free it is known otherwise
+pub IsInRun-stays : (old new : List Entry) (page : ℕ) → length new ≡ length old → ((i : ℕ) → StaysInRun (entry_at old i) (entry_at new i)) →
+    (e e' : Entry) → StaysInRun e e' → IsInRun old page e → (e ≡ Free → IsInRun new page e') → IsInRun new page e'
+IsInRun-stays old new page lengths each Free e' stays h taken = taken refl
+IsInRun-stays old new page lengths each (Used ty g fill first k) Free stays h taken = tt
+IsInRun-stays old new page lengths each (Used ty g fill first k) (Used ty' g' fill' first' k') stays h taken =
+    let says : (i : ℕ) → i < k → SaysOfRun ty g first k (entry_at new (first + i)) =
+    λ i l. SaysOfRun-stays ty g first k (entry_at old (first + i)) (entry_at new (first + i)) (each (first + i)) (h.3 i l) in
+    let inside : first + k ≤ length new = rw lengths h.2 in
+    rw (stays.0, stays.1, stays.2, stays.3) (h.0, h.1, inside, says)
 
 -- two objects lie in the same words and are of the same kind
 pub record IsSameShape (o q : Object) : Type 0 where

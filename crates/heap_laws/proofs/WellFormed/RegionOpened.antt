@@ -10,11 +10,13 @@ use Rattle.heap_terms.specs.declared.pages.Entry.TheVariants.{Free, Used}
 use Rattle.heap_terms.specs.declared.programs.Program.{Program}
 use Rattle.heap_terms.specs.Heap.{NamedHeap, Thread, object_at, entry_at, thread_at, with_thread, open_page, with_open_page}
 use Rattle.heap_terms.specs.Objects.{Object}
-use Rattle.heap_terms.specs.Regions.{IsRun, is_free, with_run, opened}
-use Rattle.heap_terms.specs.WellFormed.{IsWellFormed, IsThread, IsPlaced, IsOpenPage, IsOpenRun, IsOpenRunPage}
-use Rattle.heap_laws.proofs.Lists.Places.{IfSome-at, IfSome-from}
-use Rattle.heap_laws.proofs.WellFormed.PagesStay.{EntryStays-same, PagesStay, IsPlaced-stays, IsOpenPage-stays, IsOpenRun-stays}
-use Rattle.heap_laws.proofs.WellFormed.Threads.{AreOwn, with_thread-own, thread_cases, open_page_used, open_run_used}
+use Rattle.heap_terms.specs.Regions.{IsFreeRun, is_free, with_run, opened}
+use Rattle.heap_terms.specs.OnPages.{IsEntry, IsInRun}
+use Rattle.heap_terms.specs.Sound.{IsSound}
+use Rattle.heap_terms.specs.WellFormed.{IsWellFormed, IsThread, IsOpenPage, IsOpenRun, IsOpenRunPage}
+use Rattle.heap_laws.proofs.Lists.Places.{IfSome-at}
+use Rattle.heap_laws.proofs.WellFormed.PagesStay.{EntryStays-same, PagesStay, IsPlaced-stays, StaysInRun-from, IsInRun-stays, IsOpenPage-stays, IsOpenRun-stays}
+use Rattle.heap_laws.proofs.WellFormed.Threads.{AreOwn, HasCells, cells_of, thread_from, with_thread-own, thread_cases, open_page_used, open_run_used}
 
 -- the entries while a run is open: those of the run, and the others
 pub run_length : (pages : List Entry) (first k : ℕ) (ty : PageType) → first + k ≤ length pages → length (with_run pages first k ty) ≡ length pages
@@ -57,7 +59,7 @@ pub free_is : (e : Entry) → is_free e ≡ true → e ≡ Free
 free_is Free h = refl
 free_is (Used ty g fill first n) h = cc
 
-pub run_cases : (pages : List Entry) (first k : ℕ) (ty : PageType) (i : ℕ) → IsRun pages first k →
+pub run_cases : (pages : List Entry) (first k : ℕ) (ty : PageType) (i : ℕ) → IsFreeRun pages first k →
     (entry_at (with_run pages first k ty) i ≡ entry_at pages i)
     ⊎ ((first ≤ i) × (i < first + k) × (entry_at (with_run pages first k ty) i ≡ Used ty 0 0 first k) × (entry_at pages i ≡ Free))
 run_cases pages first k ty i run = elim (cases_lt i first) [
@@ -68,7 +70,7 @@ run_cases pages first k ty i run = elim (cases_lt i first) [
   ]
 ]
 
-pub run_stays : (pages : List Entry) (first k : ℕ) (ty : PageType) → IsRun pages first k → PagesStay pages (with_run pages first k ty)
+pub run_stays : (pages : List Entry) (first k : ℕ) (ty : PageType) → IsFreeRun pages first k → PagesStay pages (with_run pages first k ty)
 run_stays pages first k ty run = record {
   lengths = run_length pages first k ty run.inside;
   each = λ i. elim (run_cases pages first k ty i run) [
@@ -79,60 +81,71 @@ run_stays pages first k ty run = record {
 
 -- threads stay well-formed while pages stay
 pub pages_thread : (objects : List (Option Object)) (old new : List Entry) (th : Thread) → PagesStay old new → IsThread objects old th → IsThread objects new th
-pages_thread objects old new th s h = record {
-  stack_length = h.stack_length;
-  exact_length = h.exact_length;
-  raws_length = h.raws_length;
-  stack = h.stack;
-  exact = h.exact;
-  open_pages = λ ty. IfSome-from (λ (x : ℕ). IsOpenPage ty x (entry_at new x)) (open_page th ty) (λ x e.
-      IsOpenPage-stays ty x (entry_at old x) (entry_at new x) (s.each x) (IfSome-at (λ (x : ℕ). IsOpenPage ty x (entry_at old x)) (open_page th ty) x e (h.open_pages ty)));
-  open_run = IfSome-from (IsOpenRun new) th.open_run (λ x e. IsOpenRun-stays old new x s (IfSome-at (IsOpenRun old) th.open_run x e h.open_run));
+pages_thread objects old new th s h = thread_from objects new th (cells_of h)
+    (λ ty x e. IsOpenPage-stays ty x (entry_at old x) (entry_at new x) (s.each x)
+    (IfSome-at (λ (x : ℕ). IsOpenPage ty x (entry_at old x)) (open_page th ty) x e (h.open_pages ty)))
+    (λ x e. IsOpenRun-stays old new x s (IfSome-at (IsOpenRun old) th.open_run x e h.open_run))
+
+-- what lies on pages that stay is sound, where each page that was free is in its run
+pub sound_pages : (a : NamedHeap) (new : List Entry) → PagesStay a.pages new → IsSound a → ((page : ℕ) → IsEntry (entry_at new page)) →
+    ((page : ℕ) → entry_at a.pages page ≡ Free → IsInRun new page (entry_at new page)) → IsSound (record a { pages = new })
+sound_pages a new s w entries taken = record {
+  objects = λ name o e. let h = w.objects name o e in record {
+    generation = h.generation;
+    shape = h.shape;
+    contents = h.contents;
+    placed = IsPlaced-stays a.pages new o s h.placed;
+  };
+  apart = w.apart;
+  entries = entries;
+  runs = λ page. IsInRun-stays a.pages new page s.lengths (λ i. StaysInRun-from (entry_at a.pages i) (entry_at new i) (s.each i))
+      (entry_at a.pages page) (entry_at new page) (StaysInRun-from (entry_at a.pages page) (entry_at new page) (s.each page)) (w.runs page) (taken page);
+  finalizers = w.finalizers;
+  queue = w.queue;
 }
 
+-- a page that was taken is in its run
+pub run_in_run : (pages : List Entry) (first k : ℕ) (ty : PageType) (page : ℕ) → first + k ≤ length pages → first ≤ page → page < first + k →
+    IsInRun (with_run pages first k ty) page (Used ty 0 0 first k)
+run_in_run pages first k ty page inside low high = (
+  low,
+  high,
+  omega (arith, run_length pages first k ty inside),
+  (λ i l. rw (run_entry pages first k ty (first + i) inside (omega arith) (omega arith)) (refl, refl, refl, refl)),
+)
+
 -- the pages of a run are taken
-pub run-kept : (p : Program) (a : NamedHeap) (ty : PageType) (first k : ℕ) → IsWellFormed p a → IsRun a.pages first k →
+pub run-kept : (p : Program) (a : NamedHeap) (ty : PageType) (first k : ℕ) → IsWellFormed p a → IsFreeRun a.pages first k →
     IsWellFormed p (record a { pages = with_run a.pages first k ty })
 run-kept p a ty first k w run =
     let new = with_run a.pages first k ty in
     let stay = run_stays a.pages first k ty run in
     record {
+      sound = sound_pages a new stay w.sound
+          (λ page. elim (run_cases a.pages first k ty page run) [
+            | inl same ↦ rw same (w.sound.entries page)
+            | inr taken ↦ rw taken.2 (omega arith, record { even = refl; most = omega arith })
+          ])
+          (λ page free. elim (run_cases a.pages first k ty page run) [
+            | inl same ↦ rw (same, free) tt
+            | inr taken ↦ rw taken.2 (run_in_run a.pages first k ty page run.inside taken.0 taken.1)
+          ]);
       pages_length = stay.lengths ∙ w.pages_length;
       threads_length = w.threads_length;
       shared_length = w.shared_length;
+      cum_length = w.cum_length;
+      num_length = w.num_length;
       threads = λ t l. pages_thread a.objects a.pages new (thread_at a t) stay (w.threads t l);
       shared = w.shared;
-      contents = w.contents;
-      placed = λ x. IfSome-from (IsPlaced new) (object_at a.objects x) (λ o e.
-          IsPlaced-stays a.pages new o stay (IfSome-at (IsPlaced a.pages) (object_at a.objects x) o e (w.placed x)));
-      apart = w.apart;
-      fills = λ i. elim (run_cases a.pages first k ty i run) [
-        | inl same ↦ rw same (w.fills i)
-        | inr taken ↦ rw taken.2 (record { even = refl; most = omega arith })
+      objects_collected = w.objects_collected;
+      pages_collected = λ page. elim (run_cases a.pages first k ty page run) [
+        | inl same ↦ rw same (w.pages_collected page)
+        | inr taken ↦ rw taken.2 (omega arith)
       ];
-      owned = λ page i l. elim (run_cases a.pages first k ty page run) [
-        | inl same ↦ w.owned page i (rw same at l)
-        | inr taken ↦ (let none : i < 0 = rw taken.2 at l in absurd (omega arith))
-      ];
+      triggered = w.triggered;
       own_pages = w.own_pages;
       own_runs = w.own_runs;
-      owes_nothing = w.owes_nothing;
-      pins_nothing = w.pins_nothing;
     }
-
--- a thread with the cells of another is well-formed if its pages and its run are open
-pub with_cells_of : (objects : List (Option Object)) (pages : List Entry) (th new : Thread) → IsThread objects pages th → new.stack ≡ th.stack → new.exact ≡ th.exact →
-    new.raws ≡ th.raws → ((ty : PageType) (page : ℕ) → open_page new ty ≡ Some page → IsOpenPage ty page (entry_at pages page)) →
-    ((page : ℕ) → new.open_run ≡ Some page → IsOpenRun pages page) → IsThread objects pages new
-with_cells_of objects pages th new h stack exact raws are_open run = record {
-  stack_length = rw stack h.stack_length;
-  exact_length = rw exact h.exact_length;
-  raws_length = rw raws h.raws_length;
-  stack = rw stack h.stack;
-  exact = rw exact h.exact;
-  open_pages = λ ty. IfSome-from (λ (x : ℕ). IsOpenPage ty x (entry_at pages x)) (open_page new ty) (λ x e. are_open ty x e);
-  open_run = IfSome-from (IsOpenRun pages) new.open_run (λ x e. run x e);
-}
 
 -- what is open after a page was opened
 pub opened_page_cases : (th : Thread) (ty : PageType) (first : ℕ) (other : PageType) (page : ℕ) → open_page (with_open_page th ty first) other ≡ Some page →
@@ -157,6 +170,20 @@ pub record HasSameCells (old new : Thread) : Type 0 where
   pub pins : new.pins ≡ old.pins
   pub inhibits : new.inhibits ≡ old.inhibits
   pub ended : new.ended ≡ old.ended
+
+pub same_cells : (objects : List (Option Object)) (old new : Thread) → HasSameCells old new → HasCells objects old → HasCells objects new
+same_cells objects old new same h = record {
+  stack_length = rw same.stack h.stack_length;
+  exact_length = rw same.exact h.exact_length;
+  raws_length = rw same.raws h.raws_length;
+  stack = rw same.stack h.stack;
+  exact = rw same.exact h.exact;
+  raws = rw same.raws h.raws;
+  pins = rw same.pins h.pins;
+  pins_most = rw same.pins h.pins_most;
+  owed = rw same.owed h.owed;
+  inhibits = λ e. same.inhibits ∙ h.inhibits (sym same.ended ∙ e);
+}
 
 pub with_open_page-cells : (th : Thread) (ty : PageType) (first : ℕ) → HasSameCells th (with_open_page th ty first)
 with_open_page-cells th types.Cons first = record { done = refl; stack = refl; exact = refl; raws = refl; owed = refl; pins = refl; inhibits = refl; ended = refl }
@@ -253,23 +280,24 @@ new_page_open pages first k ty other page inside same at one =
 pub new_run_open : (pages : List Entry) (first k : ℕ) (ty : PageType) (page : ℕ) → first + k ≤ length pages → page ≡ first → 1 ≤ k → k ≢ 1 →
     IsOpenRun (with_run pages first k ty) page
 new_run_open pages first k ty page inside at some more = record {
+  ty = ty;
   k = k;
   long = omega arith;
   inside = (let e = run_length pages first k ty inside in omega arith);
-  each = λ i l. rw (run_entry pages first k ty (page + i) inside (omega arith) (omega arith)) (refl, refl, sym at, refl);
+  each = λ i l. rw (run_entry pages first k ty (page + i) inside (omega arith) (omega arith)) (refl, refl, refl, sym at, refl);
 }
 
 -- a run that is open is not free
 pub open_run_taken : (pages : List Entry) (first : ℕ) → IsOpenRun pages first → entry_at pages first ≡ Free → ⊥
 open_run_taken pages first h free =
     let two = h.long in
-    let page : IsOpenRunPage first h.k (entry_at pages (first + 0)) = h.each 0 (omega arith) in
+    let page : IsOpenRunPage h.ty first h.k (entry_at pages (first + 0)) = h.each 0 (omega arith) in
     let same : first + 0 ≡ first = omega arith in
-    let page' : IsOpenRunPage first h.k (entry_at pages first) = subst (λ (x : ℕ). IsOpenRunPage first h.k (entry_at pages x)) same page in
+    let page' : IsOpenRunPage h.ty first h.k (entry_at pages first) = subst (λ (x : ℕ). IsOpenRunPage h.ty first h.k (entry_at pages x)) same page in
     rw free at page'
 
 -- a thread opens a run of one page or more
-pub opened-kept : (p : Program) (a : NamedHeap) (t : ℕ) (ty : PageType) (first k : ℕ) → IsWellFormed p a → IsRun a.pages first k → 1 ≤ k →
+pub opened-kept : (p : Program) (a : NamedHeap) (t : ℕ) (ty : PageType) (first k : ℕ) → IsWellFormed p a → IsFreeRun a.pages first k → 1 ≤ k →
     IsWellFormed p (opened a t ty first k)
 unfolding opened
 opened-kept p a t ty first k w run some =
@@ -283,7 +311,7 @@ opened-kept p a t ty first k w run some =
     let nobody : (u : ℕ) (other : PageType) → open_page (thread_at b u) other ≡ Some first → ⊥ = λ u other e. rw free at (open_page_used p a u other first w e) in
     let nobody_run : (u : ℕ) → (thread_at b u).open_run ≡ Some first → ⊥ = λ u e. open_run_taken a.pages first (open_run_used p a u first w e) free in
     with_thread-own p b t new wb
-    (λ l. with_cells_of a.objects pages th new (wb.threads t l) opens.cells.stack opens.cells.exact opens.cells.raws
+    (λ l. thread_from a.objects pages new (same_cells a.objects th new opens.cells (cells_of (wb.threads t l)))
     (λ other page e. elim (opens.pages other page e) [
       | inl old ↦ open_page_used p b t other page wb old
       | inr fresh ↦ new_page_open a.pages first k ty other page run.inside fresh.0 fresh.1 fresh.2
@@ -292,5 +320,4 @@ opened-kept p a t ty first k w run some =
       | inl old ↦ open_run_used p b t page wb old
       | inr fresh ↦ new_run_open a.pages first k ty page run.inside fresh.0 some fresh.1
     ]))
-    (opens.cells.owed ∙ w.owes_nothing t) (opens.cells.pins ∙ w.pins_nothing t)
     (own_opened p b t new ty first k wb opens nobody nobody_run)

@@ -1,59 +1,57 @@
 -- Every lawful history of a valid program leaves a well-formed heap.
-use Rattle.std.proofs.Common.{◌≡◌, ℕ, ◌<◌, List, length, Some, true, refl, subst}
+use Rattle.std.proofs.Common.{◌≡◌, ℕ, ◌^◌, ◌<◌, ◌≤◌, List, [], length, Some, true, false, refl, arith}
 use Rattle.std.specs.Prelude.{slice_get}
-use Rattle.heap_terms.specs.declared.cells.Value.TheVariants as values
 use Rattle.heap_terms.specs.declared.commands.Command.{Command}
 use Rattle.heap_terms.specs.declared.events.Event.{Event}
 use Rattle.heap_terms.specs.declared.kinds.Kind.{Kind}
+use Rattle.heap_terms.specs.declared.limits.TheConstants.{MOST_PAGES}
 use Rattle.heap_terms.specs.declared.programs.Program.{Program}
-use Rattle.heap_terms.specs.Cells.{cell_value}
-use Rattle.heap_terms.specs.Heap.{NamedHeap, start, thread_at, object_at}
+use Rattle.heap_terms.specs.Heap.{NamedHeap, Thread, start, thread_at, with_thread}
 use Rattle.heap_terms.specs.Histories.{IsNext, after, Lawful, LawfulFrom, replay, replay_from, script_of}
 use Rattle.heap_terms.specs.Layout.{size_of}
+use Rattle.heap_terms.specs.Outcomes.{outcome_of}
 use Rattle.heap_terms.specs.Regions.{Make, wish_of, is_small, committed}
-use Rattle.heap_terms.specs.Simple.{effect_of}
-use Rattle.heap_terms.specs.Valid.{IsValid, IsCommand}
-use Rattle.heap_terms.specs.WellFormed.{IsWellFormed, HoldsLiving}
+use Rattle.heap_terms.specs.Valid.{IsValid, IsInRange}
+use Rattle.heap_terms.specs.WellFormed.{IsWellFormed}
 use Rattle.heap_laws.proofs.Events.Appending.{kept_by_events}
-use Rattle.heap_laws.proofs.WellFormed.Committed.{committed-kept}
-use Rattle.heap_laws.proofs.Events.Effects.{by_effect, fields_named}
 use Rattle.heap_laws.proofs.Events.Causes.{by_events}
-use Rattle.heap_laws.proofs.WellFormed.LivingValues.{cell_living, fields_living}
-use Rattle.heap_laws.proofs.WellFormed.RegionOpened.{opened-kept}
-use Rattle.heap_laws.proofs.Lists.Places.{IfSome-at}
+use Rattle.heap_laws.proofs.Outcomes.Changes.{IsRewritten, by_outcome}
 use Rattle.heap_laws.proofs.Programs.BuiltCommands.{script_thread, script_command, only_cons_built}
+use Rattle.heap_laws.proofs.WellFormed.Committed.{committed-kept}
+use Rattle.heap_laws.proofs.WellFormed.FieldWritten.{written-kept, queued-kept}
+use Rattle.heap_laws.proofs.WellFormed.LivingValues.{AreBelow-nil}
 use Rattle.heap_laws.proofs.WellFormed.PagesStay.{needs_least}
-use Rattle.heap_laws.proofs.WellFormed.Threads.{start-well_formed, with_cell-kept, advance-kept, ended-kept}
-use Rattle.heap_laws.proofs.WellFormed.FieldWritten.{put-kept}
+use Rattle.heap_laws.proofs.WellFormed.RegionOpened.{opened-kept}
+use Rattle.pass_laws.proofs.Collecting.{collected-well_formed}
+use Rattle.heap_laws.proofs.WellFormed.Threads.{start-well_formed, cells-kept, same_regions, with_cell-kept, advance-kept, ended-kept}
+
+-- a thread with other words and numbers
+rewritten-kept : (p : Program) (a : NamedHeap) (t : ℕ) (th : Thread) → IsWellFormed p a → IsRewritten a.objects (thread_at a t) th → IsWellFormed p (with_thread a t th)
+rewritten-kept p a t th w r = cells-kept p a t th w (λ l. r.cells) (same_regions (thread_at a t) th r.cons_page r.boxed_page r.unboxed_page r.run)
 
 -- a command that allocates nothing
-pub effect-kept : (p : Program) (a : NamedHeap) (t : ℕ) (c : Command) → IsWellFormed p a → t < length p.threads → IsCommand c → IsWellFormed p (effect_of a t c)
-effect-kept p a t c w l command = by_effect a t c (λ b. IsWellFormed p b) w
-    (λ d n e. with_cell-kept p a t d (values.Fix n) w (subst (λ (x : Command). IsCommand x) e command).in_range.1)
-    (λ d x i vs e f below.
-    let parts = fields_named a.objects (cell_value a t x) vs f in
-    let holds = IfSome-at (λ o. HoldsLiving a.objects o.contents) (object_at a.objects parts.0) parts.1 parts.3 (w.contents parts.0) in
-    with_cell-kept p a t d _ w (fields_living a.objects parts.1.contents vs parts.4 holds i))
-    (λ x i b vs e f below.
-    let parts = fields_named a.objects (cell_value a t x) vs f in
-    put-kept p a (cell_value a t x) (cell_value a t b) i w parts.0 parts.1 parts.2 parts.3 (cell_living p a t b w l))
-
--- a valid program wishes for conses alone, which are small
-pub wish_small : (p : Program) (t i : ℕ) (c : Command) (kind : Kind) (n seed : ℕ) → IsValid p → slice_get (script_of p t) i ≡ Some c →
-    wish_of c ≡ Make kind n seed → is_small (size_of kind n) ≡ true
-wish_small p t i c kind n seed valid at wish =
-    let cons = only_cons_built p t i c kind n seed valid at wish in rw cons.0 refl
+pub outcome-kept : (p : Program) (a : NamedHeap) (t : ℕ) (c : Command) → IsWellFormed p a → p.pages ≤ MOST_PAGES → t < length p.threads → (thread_at a t).ended ≡ false →
+    IsInRange c → IsWellFormed p (outcome_of a t c).heap
+outcome-kept p a t c w few l alive in_range = by_outcome p a t (λ b. IsWellFormed p b) w few l alive w
+    (λ d v living. with_cell-kept p a t d v w living)
+    (λ th r. rewritten-kept p a t th w r)
+    (λ name o q e same living shape. written-kept p a name o q w e same living shape)
+    (λ fs all. queued-kept p a fs a.queue w all w.sound.queue)
+    (queued-kept p a a.finalizers [] w w.sound.finalizers (AreBelow-nil (2 ^ 32) (omega arith)))
+    c in_range
 
 -- each event keeps a heap of a valid program well-formed
 pub after-well_formed : (p : Program) → IsValid p → (a : NamedHeap) (e : Event) → IsNext p a e → IsWellFormed p a → IsWellFormed p (after p a e)
 after-well_formed p valid a e next w = by_events p a (λ e b. IsWellFormed p b)
-    (λ t c answer d. advance-kept p (effect_of a t c) t
-    (effect-kept p a t c w (script_thread p t (thread_at a t).done c d.command) (script_command p t (thread_at a t).done c valid d.command)))
+    (λ t c answer d. advance-kept p (outcome_of a t c).heap t
+    (outcome-kept p a t c w valid.pages_most (script_thread p t (thread_at a t).done c d.command) d.alive
+    (script_command p t (thread_at a t).done c valid d.command).in_range))
     (λ t c answer d. advance-kept p a t w)
     (λ t c answer kind n seed d. advance-kept p (committed p a t c kind n) t
-    (committed-kept p a t c kind n seed w valid.auto (script_thread p t (thread_at a t).done c d.command) d.wish
-    (wish_small p t (thread_at a t).done c kind n seed valid d.command d.wish) d.room))
+    (committed-kept p a t c kind n seed w (script_thread p t (thread_at a t).done c d.command) (script_command p t (thread_at a t).done c valid d.command).in_range
+    d.wish d.room))
     (λ t ty first k d. opened-kept p a t ty first k w d.lowest.run (rw d.count_is (needs_least (size_of d.kind d.n))))
+    (λ t last passes d. collected-well_formed p a t last passes w d.collection)
     (λ t d. ended-kept p a t w)
     e next
 

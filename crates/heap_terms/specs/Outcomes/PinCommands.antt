@@ -7,7 +7,7 @@ use Rattle.heap_terms.specs.declared.cells.Cell.{Cell}
 use Rattle.heap_terms.specs.Cells.{cell_value}
 use Rattle.heap_terms.specs.Heap.{NamedHeap, thread_at, with_thread}
 use Rattle.heap_terms.specs.Outcome.{Outcome, done, refused}
-use Rattle.heap_terms.specs.Words.{word_of}
+use Rattle.heap_terms.specs.Spelling.{word_of}
 
 -- the heap with other pins of thread t
 abbrev pub with_pins : NamedHeap → ℕ → List ℕ → NamedHeap
