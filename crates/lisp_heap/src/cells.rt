@@ -60,6 +60,7 @@ impl CellWords {
     }
 
     /// The word in a cell of thread t.
+    #[inline(always)]
     pub fn read(&self, t: usize, cell: Cell) -> u64
         requires cell { IsCell cell }
         requires room { HasCells self.now t }
@@ -73,6 +74,7 @@ impl CellWords {
     }
 
     /// Puts a word into a cell of thread t.
+    #[inline(always)]
     pub fn write(&mut self, t: usize, cell: Cell, word: u64)
         requires cell { IsCell cell }
         requires room { HasCells self.old t }
