@@ -1,7 +1,7 @@
 -- The names that a history gives are 0, 1, 2 and so on.
-use Rattle.std.proofs.Common.{◌≡◌, ℕ, zero, suc, ◌+◌, List, [], ◌∷◌, ◌++◌, length, Option, Some, None, Bool, true, false, ◌⊎◌, inl, inr, refl, sym, ◌∙◌, ap, arith, cond}
+use Rattle.std.proofs.Common.{◌≡◌, ℕ, ◌+◌, List, [], ◌∷◌, ◌++◌, length, Some, None, Bool, true, false, ◌⊎◌, inl, inr, refl, sym, ◌∙◌, ap, arith, cond}
 use Rattle.std.proofs.lemmas.List.{length_push}
-use Rattle.std.specs.List.{filter_map, range_with_len}
+use Rattle.std.specs.List.{range_with_len}
 use Rattle.heap_terms.specs.declared.answers.Answer.{Answer}
 use Rattle.heap_terms.specs.declared.answers.Answer.TheVariants as answers
 use Rattle.heap_terms.specs.declared.cells.Value.TheVariants as values
@@ -14,7 +14,7 @@ use Rattle.heap_terms.specs.Histories.{IsNext, after, Lawful, LawfulFrom, replay
 use Rattle.heap_terms.specs.Layout.{size_of}
 use Rattle.heap_terms.specs.Objects.{Object}
 use Rattle.heap_terms.specs.Regions.{committed, counting, triggers, run_used, pages_after, place_for, with_destination, destination_of, initial_contents}
-use Rattle.heap_terms.specs.Simple.{answer_of, effect_of}
+use Rattle.heap_terms.specs.Simple.{answer_of}
 use Rattle.heap_laws.specs.CommandLaws.{name_in, name_in_answer, names_of}
 use Rattle.heap_laws.proofs.Events.Causes.{by_events}
 use Rattle.heap_laws.proofs.Events.OwnThread.{with_destination-objects}

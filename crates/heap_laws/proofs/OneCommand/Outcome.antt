@@ -4,7 +4,7 @@ use Rattle.std.specs.Prelude.{slice_index_or}
 use Rattle.heap_terms.specs.declared.answers.Answer.{Answer}
 use Rattle.heap_terms.specs.declared.answers.Answer.TheVariants as answers
 use Rattle.heap_terms.specs.declared.answers.Refusal.{Refusal}
-use Rattle.heap_terms.specs.declared.answers.Refusal.TheVariants.{NotType, OutOfRange}
+use Rattle.heap_terms.specs.declared.answers.Refusal.TheVariants.{OutOfRange}
 use Rattle.heap_terms.specs.declared.cells.Value.{Value}
 use Rattle.heap_terms.specs.declared.commands.Command.{Command}
 use Rattle.heap_terms.specs.declared.commands.Command.TheVariants as commands
@@ -15,7 +15,7 @@ use Rattle.heap_terms.specs.Cells.{cell_value, with_cell}
 use Rattle.heap_terms.specs.Heap.{NamedHeap, zero_value}
 use Rattle.heap_terms.specs.Histories.{IsNext, after, advance, next}
 use Rattle.heap_terms.specs.Layout.{size_of}
-use Rattle.heap_terms.specs.Regions.{Wish, Nothing, Make, wish_of, committed, has_room, place_for}
+use Rattle.heap_terms.specs.Regions.{Wish, Nothing, Make, wish_of, committed, place_for}
 use Rattle.heap_terms.specs.Simple.{answer_of, effect_of, fields_at, refusing, changing, with_field_at}
 use Rattle.heap_laws.proofs.Events.Causes.{Builds, by_command}
 

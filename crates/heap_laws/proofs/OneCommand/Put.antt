@@ -2,10 +2,10 @@
 use Rattle.std.proofs.Common.{◌≡◌, ◌≢◌, ℕ, zero, suc, ◌+◌, ◌<◌, List, [], ◌∷◌, length, Option, Some, None, Bool, true, false, inl, inr, refl, sym, ◌∙◌, ap, subst, arith, cond, ltb, get_or, set}
 use Rattle.std.proofs.lemmas.Bool.{cases_eq, ltb-true}
 use Rattle.std.proofs.lemmas.List.{get_or-set_same, get_or-set_other, length-set}
-use Rattle.std.specs.Prelude.{slice_get, option_and_then, option_map, IsSome}
+use Rattle.std.specs.Prelude.{slice_get, option_and_then, option_map}
 use Rattle.heap_terms.specs.declared.answers.Answer.{Answer}
 use Rattle.heap_terms.specs.declared.answers.Answer.TheVariants as answers
-use Rattle.heap_terms.specs.declared.answers.Refusal.TheVariants.{NotType, OutOfRange}
+use Rattle.heap_terms.specs.declared.answers.Refusal.TheVariants.{OutOfRange}
 use Rattle.heap_terms.specs.declared.cells.Cell.{Cell}
 use Rattle.heap_terms.specs.declared.cells.Cell.TheVariants.{Stack, Exact, Shared}
 use Rattle.heap_terms.specs.declared.cells.Value.{Value}
@@ -14,13 +14,13 @@ use Rattle.heap_terms.specs.declared.commands.Command.TheVariants.{Get, Put}
 use Rattle.heap_terms.specs.declared.events.Event.TheVariants.{Did}
 use Rattle.heap_terms.specs.declared.programs.Program.{Program}
 use Rattle.heap_terms.specs.Cells.{cell_value}
-use Rattle.heap_terms.specs.Heap.{NamedHeap, Thread, object_at, thread_at, with_thread, zero_value}
+use Rattle.heap_terms.specs.Heap.{NamedHeap, Thread, object_at, thread_at, zero_value}
 use Rattle.heap_terms.specs.Histories.{IsNext, after, advance}
 use Rattle.heap_terms.specs.Objects.{Object, Contents, ConsOf, VectorOf, InstanceOf, ClosureOf, WordsOf, WeakTo, TableOf, fields_of, kind_of}
-use Rattle.heap_terms.specs.Simple.{answer_of, effect_of, fields_at, fields_of_object, refusing, changing, with_field, with_field_at, object_with_field}
-use Rattle.heap_laws.specs.CommandLaws.{LeavesTheRest, field_at, kind_at, place_at}
+use Rattle.heap_terms.specs.Simple.{answer_of, effect_of, fields_at, fields_of_object, refusing, with_field, with_field_at, object_with_field}
+use Rattle.heap_laws.specs.CommandLaws.{LeavesTheRest, field_at}
 use Rattle.heap_laws.proofs.Events.Effects.{by_change, fields_named, with_field-kind}
-use Rattle.heap_laws.proofs.Lists.Places.{set_cases, IsSome-from}
+use Rattle.heap_laws.proofs.Lists.Places.{IsSome-from}
 use Rattle.heap_laws.proofs.OneCommand.Outcome.{simple_outcome}
 use Rattle.heap_laws.proofs.Ranges.PlainEvents.{name_below}
 use Rattle.heap_laws.proofs.WellFormed.Threads.{thread_cases}
