@@ -5,7 +5,7 @@ ghost use Rattle.heap_terms.specs.declared.limits.TheConstants.{MOST_PAGES};
 ghost use Rattle.heap_terms.specs.Fresh.{fresh_contents, IsBuildable};
 ghost use Rattle.heap_terms.specs.Layout.{page_words, page_type_of};
 ghost use Rattle.heap_terms.specs.Layout as layout;
-ghost use Rattle.heap_terms.specs.Words.{spelling};
+ghost use Rattle.heap_terms.specs.Spelling.{spelling};
 ghost use Rattle.alloc_region.specs.View.{opened_region, end_of, largest_object};
 
 use crate::buffer::Buffer;

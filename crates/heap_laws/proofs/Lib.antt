@@ -15,3 +15,5 @@ mod Termination
 mod Progress
 mod Order
 mod Ranges
+mod Equal
+mod OneCommand

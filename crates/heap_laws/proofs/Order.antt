@@ -3,3 +3,4 @@ pub mod ScriptsInOrder
 pub mod PassesDetermined
 pub mod Determined
 pub mod RunsAsRelation
+pub mod OneRun

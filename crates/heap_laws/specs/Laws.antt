@@ -25,13 +25,13 @@ HistoriesGrow = (p : Program) (h : List Event) (e : Event) → Lawful p h → Is
 abbrev pub HeapsAreWellFormed : Type 0
 HeapsAreWellFormed = (p : Program) (h : List Event) → IsValid p → Lawful p h → IsWellFormed p (replay p h)
 
--- of at most 20,000 objects, all of them conses until more kinds are built
+-- of at most 20,000 objects; until more kinds are built, all of them conses
 abbrev pub HeapsAreSmall : Type 0
 HeapsAreSmall = (p : Program) (h : List Event) → IsValid p → Lawful p h →
     (length (replay p h).objects ≤ MOST_COMMANDS)
     × ((name : ℕ) → IfSome (object_at (replay p h).objects name) (λ o. kind_of o.contents ≡ kinds.Cons))
 
--- no thread collects until collections are built
+-- until collections are built no thread owes one
 abbrev pub NobodyCollects : Type 0
 NobodyCollects = (p : Program) (h : List Event) (t last : ℕ) → IsValid p → Lawful p h → ¬ (next p (replay p h) t ≡ nexts.Collect last)
 
@@ -69,7 +69,7 @@ abbrev pub ScriptsAreDone : Type 0
 ScriptsAreDone = (p : Program) (h : List Event) (t : ℕ) → IsValid p → IsComplete p h → t < length p.threads →
     (commands_of t h ≡ script_of p t) × EndsOnce t (events_of t h)
 
--- every event of a lawful history of a valid program is plain
+-- every event of a lawful history of a valid program is plain; until collections are built none is one
 abbrev pub EventsArePlain : Type 0
 EventsArePlain = (p : Program) (h : List Event) → IsValid p → Lawful p h → All IsPlain h
 

@@ -4,3 +4,4 @@ pub mod Order
 pub mod Plain
 pub mod Laws
 pub mod WordLaws
+pub mod CommandLaws

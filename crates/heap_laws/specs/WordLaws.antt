@@ -5,7 +5,7 @@ use Rattle.heap_terms.specs.Layout.{size_of, header_of}
 use Rattle.heap_terms.specs.Objects.{Object, Contents, ConsOf, VectorOf, InstanceOf, ClosureOf, WordsOf, WeakTo, TableOf, kind_of, payload_of}
 use Rattle.heap_terms.specs.Slots.{Slot, Raw, Val, Side, Kept, slots, slot_at}
 use Rattle.heap_terms.specs.Stands.{SlotsStand, KeptStand}
-use Rattle.heap_terms.specs.Words.{word_of, spelling}
+use Rattle.heap_terms.specs.Spelling.{word_of, spelling}
 
 -- the word of a slot in a region; a word that look-up keeps begins as fixnum 0
 abbrev pub word_of_slot : List (Option Object) → Slot → ℕ

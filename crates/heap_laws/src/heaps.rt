@@ -8,12 +8,13 @@ pub fn heaps_are_well_formed()
     ensures { HeapsAreWellFormed }
 {}
 
-/// A heap has at most 20,000 objects, since a command makes at most one; for now all are conses.
+/// A heap has at most 20,000 objects, since a command makes at most one. Holds until more kinds are
+/// built: all of them are conses.
 pub fn heaps_are_small()
     ensures { HeapsAreSmall }
 {}
 
-/// For now no thread of a valid program owes a collection.
+/// Holds until collections are built: no thread of a valid program owes one.
 pub fn nobody_collects()
     ensures { NobodyCollects }
 {}

@@ -1,5 +1,6 @@
 //! Laws of lawful histories.
 
+ghost use Rattle.heap_laws.specs.CommandLaws.{OneScriptOneJournal};
 ghost use Rattle.heap_laws.specs.Laws.{HistoriesGrow, HistoriesEnd, ThreadsGoOn, HistoriesGoOn, HistoriesComplete, RunsAreLawful, ScriptsAreDone, EventsArePlain, OrderDetermines};
 
 /// An event that may come next makes a lawful history one longer, and the heap at its end is the
@@ -44,7 +45,8 @@ pub fn scripts_are_done()
 {}
 
 /// Every event of a lawful history of a valid program has a command that is built, an answer that
-/// such a command gives, and numbers in their ranges.
+/// such a command gives, and numbers in their ranges. Holds until collections are built: none is
+/// among the events.
 pub fn events_are_plain()
     ensures { EventsArePlain }
 {}
@@ -54,4 +56,10 @@ pub fn events_are_plain()
 /// same. Until collections are built the order of the threads is enough.
 pub fn order_determines()
     ensures { OrderDetermines }
+{}
+
+/// Where no collection is in it one script has one journal: two complete runs of one program by its
+/// schedule have the same events, the same lines and the same text, however many rounds they took.
+pub fn one_script_one_journal()
+    ensures { OneScriptOneJournal }
 {}

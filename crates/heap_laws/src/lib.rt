@@ -4,6 +4,8 @@
 //! `specs/` alone.
 #![tactic(auto)]
 
+pub mod equality;
 pub mod heaps;
 pub mod histories;
+pub mod reads_and_writes;
 pub mod words;

@@ -29,8 +29,8 @@ has_bytes [] = false
 has_bytes (b ∷ bs) = true
 
 -- the fields of a line: what stands between blanks
-unfoldable pub fields_of : List ℕ → List (List ℕ)
-fields_of line = filter has_bytes (slice_split is_blank line)
+unfoldable pub fields_in : List ℕ → List (List ℕ)
+fields_in line = filter has_bytes (slice_split is_blank line)
 
 -- so many digits in a base, from 1 to the most
 abbrev pub is_numeral : ℕ → ℕ → List ℕ → Bool
@@ -68,8 +68,8 @@ unfoldable pub raw_cell_of : List ℕ → Option Raw
 raw_cell_of [] = None
 raw_cell_of (b ∷ digits) = if b == 114 then option_map (λ n. record { 0 = n }) (cell_number RAW_CELLS digits) else None
 
-unfoldable pub weakness_of : List ℕ → Option Weakness
-weakness_of field =
+unfoldable pub weakness_named : List ℕ → Option Weakness
+weakness_named field =
     if bytes_eq field (codes "strong") then Some weaknesses.Strong
     else if bytes_eq field (codes "key") then Some weaknesses.Key
     else if bytes_eq field (codes "value") then Some weaknesses.Value

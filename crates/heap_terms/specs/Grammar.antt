@@ -9,7 +9,7 @@ use Rattle.heap_terms.specs.declared.faults.Why.{Why}
 use Rattle.heap_terms.specs.declared.faults.Why.TheVariants.{Word, Fields, Form}
 use Rattle.heap_terms.specs.declared.kinds.Weakness.{Weakness}
 use Rattle.heap_terms.specs.declared.limits.TheConstants.{MOST_ELEMENTS, MOST_PAIRS, OLDEST_GENERATION}
-use Rattle.heap_terms.specs.Fields.{◌>>=◌, number_of, signed_of, raw_word_of, cell_of, raw_cell_of, weakness_of, ranged, between, at_least, at_most, is_fixnum, is_i64, is_auto, turns_of}
+use Rattle.heap_terms.specs.Fields.{◌>>=◌, number_of, signed_of, raw_word_of, cell_of, raw_cell_of, weakness_named, ranged, between, at_least, at_most, is_fixnum, is_i64, is_auto, turns_of}
 
 -- what a field may be; a number has a test of its range
 pub data FieldForm : Type 0 where
@@ -55,7 +55,7 @@ abbrev pub meaning_of : (form : FieldForm) → List ℕ → Result (Meaning form
 meaning_of LispCell field = ok_or (cell_of field) Form
 meaning_of RawCell field = ok_or (raw_cell_of field) Form
 meaning_of RawWord field = ok_or (raw_word_of field) Form
-meaning_of WeaknessWord field = ok_or (weakness_of field) Form
+meaning_of WeaknessWord field = ok_or (weakness_named field) Form
 meaning_of (Number test) field = ranged test (number_of field)
 meaning_of (Signed test) field = ranged test (signed_of field)
 

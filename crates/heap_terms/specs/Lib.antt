@@ -3,7 +3,7 @@ pub mod Objects
 pub mod Heap
 pub mod Cells
 pub mod Slots
-pub mod Words
+pub mod Spelling
 pub mod Valid
 pub mod Referents
 pub mod RawCells
@@ -32,6 +32,6 @@ pub mod PageRuns
 pub mod Fresh
 pub mod Fields
 pub mod Grammar
-pub mod Reading
+pub mod ScriptReading
 pub mod WordMachine
 pub mod Schedules

@@ -2,6 +2,7 @@
 -- are this project's own; that a broken weak pointer holds something else than a value is SBCL's. Left free is which
 -- values and words they are.
 use Rattle.std.specs.Prelude.{◌≡◌, ◌≢◌, ℕ, ◌^◌, ◌<◌, ◌≤◌, List, AllPairs, length, map, Option, IsSome, slice_index_or}
+use Rattle.heap_terms.specs.declared.limits.TheConstants.{MOST_ELEMENTS, MOST_PAIRS}
 use Rattle.heap_terms.specs.declared.cells.Value.{Value}
 use Rattle.heap_terms.specs.declared.cells.Value.TheVariants.{Fix, Nil, Unbound, Ref}
 use Rattle.heap_terms.specs.Heap.{object_at, zero_value}
@@ -48,9 +49,9 @@ AreDistinctKeys pairs = AllPairs (λ (x y : Value × Value). x.0 ≢ y.0) pairs
 -- 1 to 64 pairs, no more pairs than that, and each key once
 abbrev pub IsShaped : Contents → Type 0
 IsShaped (ConsOf a b) = Unit {0}
-IsShaped (VectorOf vs) = length vs ≤ 65535
-IsShaped (InstanceOf vs) = length vs ≤ 65535
-IsShaped (ClosureOf vs) = length vs ≤ 65535
-IsShaped (WordsOf ws) = (length ws ≤ 65535) × AreBelow (2 ^ 64) ws
+IsShaped (VectorOf vs) = length vs ≤ MOST_ELEMENTS
+IsShaped (InstanceOf vs) = length vs ≤ MOST_ELEMENTS
+IsShaped (ClosureOf vs) = length vs ≤ MOST_ELEMENTS
+IsShaped (WordsOf ws) = (length ws ≤ MOST_ELEMENTS) × AreBelow (2 ^ 64) ws
 IsShaped (WeakTo v) = Unit {0}
-IsShaped (TableOf w b pairs) = (1 ≤ b) × (b ≤ 64) × (length pairs ≤ b) × AreDistinctKeys pairs
+IsShaped (TableOf w b pairs) = (1 ≤ b) × (b ≤ MOST_PAIRS) × (length pairs ≤ b) × AreDistinctKeys pairs

@@ -2,6 +2,7 @@
 -- two share no word, and the pages of a run say the same of it. The layout is this project's own. Left free is which
 -- page or run an object lies on.
 use Rattle.std.specs.Prelude.{◌≡◌, ◌≢◌, ℕ, ◌+◌, ◌*◌, ◌/◌, ◌%◌, ◌<◌, ◌≤◌, ◌⊎◌, List, length, Option, Some, true, false}
+use Rattle.heap_terms.specs.declared.limits.TheConstants.{OLDEST_GENERATION}
 use Rattle.heap_terms.specs.declared.kinds.PageType.{PageType}
 use Rattle.heap_terms.specs.declared.pages.Entry.{Entry}
 use Rattle.heap_terms.specs.declared.pages.Entry.TheVariants.{Free, Used}
@@ -46,7 +47,7 @@ pub record IsFill (fill : ℕ) : Type 0 where
 -- a page in use is of one of the seven generations, and filled by an even number of words, at most a page
 abbrev pub IsEntry : Entry → Type 0
 IsEntry Free = Unit {0}
-IsEntry (Used ty g fill first pages) = (g ≤ 6) × IsFill fill
+IsEntry (Used ty g fill first pages) = (g ≤ OLDEST_GENERATION) × IsFill fill
 
 -- a page is in use, and says of its type, its generation and its run what is said here
 abbrev pub SaysOfRun : PageType → ℕ → ℕ → ℕ → Entry → Type 0

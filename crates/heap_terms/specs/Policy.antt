@@ -2,6 +2,7 @@
 -- collections before promotion, bytes consed between collections and minimum average age; the loop and all numbers
 -- are this project's own. Nothing is left free.
 use Rattle.std.specs.Prelude.{ℕ, List, ◌+◌, ◌*◌, ◌&&◌, ◌||◌, Bool, false, if◌then◌else◌, nat_le, nat_lt, slice_index_or, slice_set}
+use Rattle.heap_terms.specs.declared.limits.TheConstants.{OLDEST_COLLECTED}
 use Rattle.heap_terms.specs.Generations.{allocated}
 use Rattle.heap_terms.specs.Heap.{NamedHeap}
 
@@ -27,7 +28,7 @@ num_of a g = slice_index_or a.num g 0
 
 -- whether generation g is raised in a collection up to generation `last`
 abbrev pub is_raised : NamedHeap → ℕ → ℕ → Bool
-is_raised a last g = nat_lt g 5 && (nat_lt g last || nat_le before (num_of a g))
+is_raised a last g = nat_lt g OLDEST_COLLECTED && (nat_lt g last || nat_le before (num_of a g))
 
 -- whether the average age of a generation is above three quarters
 abbrev pub has_age : NamedHeap → ℕ → Bool
@@ -36,7 +37,7 @@ has_age a g = nat_lt (3 * allocated a g) (4 * cum_of a g)
 -- whether the collection goes on with generation g + 1, in the heap after the pass over g
 abbrev pub is_continued : NamedHeap → ℕ → ℕ → Bool → Bool
 is_continued a last g raised =
-    nat_lt g 5 && (nat_le (g + 1) last || (raised && (nat_lt between (allocated a (g + 1)) && has_age a (g + 1))))
+    nat_lt g OLDEST_COLLECTED && (nat_le (g + 1) last || (raised && (nat_lt between (allocated a (g + 1)) && has_age a (g + 1))))
 
 -- the two tests that a collection makes
 unfoldable pub raises : NamedHeap → ℕ → ℕ → Bool

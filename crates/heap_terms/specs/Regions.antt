@@ -197,18 +197,18 @@ is_free entries.Free = true
 is_free (entries.Used ty g fill first pages) = false
 
 -- from page `first` on, k pages are there and free
-pub record IsRun (pages : List Entry) (first k : ℕ) : Type 0 where
+pub record IsFreeRun (pages : List Entry) (first k : ℕ) : Type 0 where
   pub inside : first + k ≤ length pages
   pub free : (i : ℕ) → first ≤ i → i < first + k → is_free (entry_at pages i) ≡ true
 
 -- the lowest run of k free pages begins at `first`
 pub record IsLowestRun (pages : List Entry) (first k : ℕ) : Type 0 where
-  pub run : IsRun pages first k
-  pub lowest : (lower : ℕ) → lower < first → ¬ IsRun pages lower k
+  pub run : IsFreeRun pages first k
+  pub lowest : (lower : ℕ) → lower < first → ¬ IsFreeRun pages lower k
 
 -- there are no k free pages side by side
 abbrev pub HasNoRun : List Entry → ℕ → Type 0
-HasNoRun pages k = (first : ℕ) → ¬ IsRun pages first k
+HasNoRun pages k = (first : ℕ) → ¬ IsFreeRun pages first k
 
 -- the pages after k of them, from `first` on, were taken as one empty run of generation 0
 abbrev pub with_run : List Entry → ℕ → ℕ → PageType → List Entry

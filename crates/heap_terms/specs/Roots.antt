@@ -7,7 +7,7 @@ use Rattle.heap_terms.specs.Generations.{is_of}
 use Rattle.heap_terms.specs.Heap.{NamedHeap, Thread, object_at}
 use Rattle.heap_terms.specs.Layout.{reference_word}
 use Rattle.heap_terms.specs.Objects.{Object, kind_of}
-use Rattle.heap_terms.specs.Words.{word_of}
+use Rattle.heap_terms.specs.Spelling.{word_of}
 
 -- the ambiguous words of a thread: its cells s, its raw cells and its pins
 abbrev pub thread_words : List (Option Object) → Thread → List ℕ

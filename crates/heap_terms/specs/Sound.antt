@@ -2,6 +2,7 @@
 -- of it is this project's own. Left free is what lies in words that belong to no object: below a page's fill these are
 -- fillers, where the words stand for the heap.
 use Rattle.std.specs.Prelude.{◌≡◌, ◌≢◌, ℕ, ◌^◌, ◌<◌, ◌≤◌, List, All, Option, Some, IsSome}
+use Rattle.heap_terms.specs.declared.limits.TheConstants.{OLDEST_GENERATION}
 use Rattle.heap_terms.specs.declared.pages.Entry.{Entry}
 use Rattle.heap_terms.specs.Heap.{NamedHeap, object_at, entry_at}
 use Rattle.heap_terms.specs.Living.{HoldsLiving, IsShaped, AreBelow}
@@ -11,7 +12,7 @@ use Rattle.heap_terms.specs.OnPages.{IsPlaced, AreApart, IsEntry, IsInRun}
 -- an object is sound among these objects and on these pages: it is of one of the seven generations, has the shape of its
 -- kind, holds living values, and lies where it may
 pub record IsObject (objects : List (Option Object)) (pages : List Entry) (o : Object) : Type 0 where
-  pub generation : o.generation ≤ 6
+  pub generation : o.generation ≤ OLDEST_GENERATION
   pub shape : IsShaped o.contents
   pub contents : HoldsLiving objects o.contents
   pub placed : IsPlaced pages o

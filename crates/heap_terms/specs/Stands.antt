@@ -5,7 +5,7 @@ use Rattle.heap_terms.specs.Layout.{page_words, filler_word}
 use Rattle.heap_terms.specs.Objects.{Object, Contents}
 use Rattle.heap_terms.specs.Slots.{Slot, Raw, Val, Side, Kept, slot_at}
 use Rattle.heap_terms.specs.WellFormed.{IsOwned}
-use Rattle.heap_terms.specs.Words.{word_of}
+use Rattle.heap_terms.specs.Spelling.{word_of}
 
 -- the word that stands for a slot; nothing is said here of a word that look-up keeps
 abbrev pub StandsFor : List (Option Object) → Slot → ℕ → Type 0

@@ -2,6 +2,7 @@
 -- a sound heap with the pages and threads of the program, whose threads have their cells and regions. It is this
 -- project's own. Left free is what a sound heap leaves free.
 use Rattle.std.specs.Prelude.{◌≡◌, ℕ, ◌+◌, ◌^◌, ◌<◌, ◌≤◌, List, length, Option, Some, IfSome, true}
+use Rattle.heap_terms.specs.declared.limits.TheConstants.{CELLS, RAW_CELLS, MOST_PINS, MOST_TRIGGERS, OLDEST_COLLECTED}
 use Rattle.heap_terms.specs.declared.kinds.PageType.{PageType}
 use Rattle.heap_terms.specs.declared.pages.Entry.{Entry}
 use Rattle.heap_terms.specs.declared.pages.Entry.TheVariants.{Free, Used}
@@ -34,15 +35,15 @@ pub record IsOpenRun (pages : List Entry) (first : ℕ) : Type 0 where
 -- 32 pins, it owes no more than a full collection, its open pages and its open run are open, and it inhibits nothing
 -- once it has ended
 pub record IsThread (objects : List (Option Object)) (pages : List Entry) (th : Thread) : Type 0 where
-  pub stack_length : length th.stack ≡ 16
-  pub exact_length : length th.exact ≡ 16
-  pub raws_length : length th.raws ≡ 8
+  pub stack_length : length th.stack ≡ CELLS
+  pub exact_length : length th.exact ≡ CELLS
+  pub raws_length : length th.raws ≡ RAW_CELLS
   pub stack : AreLiving objects th.stack
   pub exact : AreLiving objects th.exact
   pub raws : AreBelow (2 ^ 64) th.raws
   pub pins : AreBelow (2 ^ 64) th.pins
-  pub pins_most : length th.pins ≤ 32
-  pub owed : IfSome th.owed (λ last. last ≤ 5)
+  pub pins_most : length th.pins ≤ MOST_PINS
+  pub owed : IfSome th.owed (λ last. last ≤ OLDEST_COLLECTED)
   pub open_pages : (ty : PageType) → IfSome (open_page th ty) (λ page. IsOpenPage ty page (entry_at pages page))
   pub open_run : IfSome th.open_run (IsOpenRun pages)
   pub inhibits : th.ended ≡ true → th.inhibits ≡ 0
@@ -50,7 +51,7 @@ pub record IsThread (objects : List (Option Object)) (pages : List Entry) (th : 
 -- a page in use is of a generation that is collected
 abbrev pub IsCollected : Entry → Type 0
 IsCollected Free = Unit {0}
-IsCollected (Used ty g fill first pages) = g ≤ 5
+IsCollected (Used ty g fill first pages) = g ≤ OLDEST_COLLECTED
 
 -- The heap is sound, its lengths are the program's, each value in a cell refers to an object that is there, objects and
 -- pages are of generations that are collected, at most 64 commits have triggered, and no two threads share an open page or
@@ -59,14 +60,14 @@ pub record IsWellFormed (p : Program) (a : NamedHeap) : Type 0 where
   pub sound : IsSound a
   pub pages_length : length a.pages ≡ p.pages
   pub threads_length : length a.threads ≡ length p.threads
-  pub shared_length : length a.shared ≡ 16
+  pub shared_length : length a.shared ≡ CELLS
   pub cum_length : length a.cum ≡ 7
   pub num_length : length a.num ≡ 7
   pub threads : (t : ℕ) → t < length p.threads → IsThread a.objects a.pages (thread_at a t)
   pub shared : AreLiving a.objects a.shared
-  pub objects_collected : (name : ℕ) (o : Object) → object_at a.objects name ≡ Some o → o.generation ≤ 5
+  pub objects_collected : (name : ℕ) (o : Object) → object_at a.objects name ≡ Some o → o.generation ≤ OLDEST_COLLECTED
   pub pages_collected : (page : ℕ) → IsCollected (entry_at a.pages page)
-  pub triggered : a.triggered ≤ 64
+  pub triggered : a.triggered ≤ MOST_TRIGGERS
   pub own_pages : (t u : ℕ) (ty other : PageType) (page : ℕ) → open_page (thread_at a t) ty ≡ Some page →
       open_page (thread_at a u) other ≡ Some page → (t ≡ u) × (ty ≡ other)
   pub own_runs : (t u : ℕ) (page : ℕ) → (thread_at a t).open_run ≡ Some page → (thread_at a u).open_run ≡ Some page → t ≡ u

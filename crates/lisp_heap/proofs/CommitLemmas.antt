@@ -9,7 +9,7 @@ use Rattle.heap_terms.specs.Layout.{page_words}
 use Rattle.heap_terms.specs.Objects.{Object, ConsOf, words_of_object}
 use Rattle.heap_terms.specs.Stands.{WordsStand, SlotsStand, KeptStand}
 use Rattle.heap_terms.specs.WellFormed.{IsWellFormed, IsLiving, AreApart, IsPlaced}
-use Rattle.heap_terms.specs.Words.{word_of}
+use Rattle.heap_terms.specs.Spelling.{word_of}
 use Rattle.heap_laws.proofs.AtPlaces.{IfSome-at, IfSome-from, IsSome-from, push_cases}
 use Rattle.lisp_heap.specs.Standing.{LabelsStand}
 use Rattle.lisp_heap.proofs.ObjectLemmas.{word_of-push, name_below}

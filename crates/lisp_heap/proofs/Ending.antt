@@ -10,7 +10,7 @@ use Rattle.heap_terms.specs.declared.programs.Program.{Program}
 use Rattle.heap_terms.specs.Heap.{NamedHeap, Thread, thread_at, with_thread, ended_thread, zero_value}
 use Rattle.heap_terms.specs.Histories.{IsNext, after, next}
 use Rattle.heap_terms.specs.Objects.{Object}
-use Rattle.heap_terms.specs.Words.{word_of}
+use Rattle.heap_terms.specs.Spelling.{word_of}
 use Rattle.lisp_heap.specs.Agreement.{Agrees, small_out, run_out}
 use Rattle.lisp_heap.specs.CellsView.{CellsView, spot, cleared, with_cleared}
 use Rattle.lisp_heap.specs.ParcelView.{ParcelView, empty_parcel}

@@ -10,7 +10,7 @@ use Rattle.heap_terms.specs.Layout.{reference_word}
 use Rattle.heap_terms.specs.Objects.{Object}
 use Rattle.heap_terms.specs.Simple.{with_field_at, object_with_field}
 use Rattle.heap_terms.specs.WellFormed.{IsLiving}
-use Rattle.heap_terms.specs.Words.{word_of, word_of_object}
+use Rattle.heap_terms.specs.Spelling.{word_of, word_of_object}
 use Rattle.heap_laws.proofs.AtPlaces.{set_cases, IsSome-value}
 use Rattle.heap_laws.proofs.SoundHeaps.{with_field-kind}
 

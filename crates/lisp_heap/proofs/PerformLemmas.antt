@@ -10,7 +10,7 @@ use Rattle.heap_terms.specs.Objects.{Object}
 use Rattle.heap_terms.specs.Simple.{with_field_at, object_with_field, with_field}
 use Rattle.heap_terms.specs.Stands.{WordsStand}
 use Rattle.heap_terms.specs.WellFormed.{IsWellFormed}
-use Rattle.heap_terms.specs.Words.{word_of}
+use Rattle.heap_terms.specs.Spelling.{word_of}
 use Rattle.heap_laws.proofs.AtPlaces.{IfSome-at, IfSome-from, set_cases}
 use Rattle.lisp_heap.specs.CellsView.{CellsView}
 use Rattle.lisp_heap.specs.Plan.{Makes, cells_after, words_after}

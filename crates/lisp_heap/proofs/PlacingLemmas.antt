@@ -24,7 +24,7 @@ use Rattle.heap_terms.specs.Regions.{place_for, is_free, with_fill}
 use Rattle.heap_terms.specs.Stands.{WordsStand}
 use Rattle.heap_terms.specs.Valid.{IsCell}
 use Rattle.heap_terms.specs.WellFormed.{IsWellFormed, IsLiving, IsOpenRunPage, IsPlaced}
-use Rattle.heap_terms.specs.Words.{word_of, word_of_object}
+use Rattle.heap_terms.specs.Spelling.{word_of, word_of_object}
 use Rattle.heap_laws.proofs.SoundHeaps.{commits_few, after-well_formed, open_run_used}
 use Rattle.heap_laws.proofs.Allocating.{HasPage, has_page, place_small, committed-small, new_object, heap_with}
 use Rattle.heap_laws.proofs.ValidScripts.{script_command}

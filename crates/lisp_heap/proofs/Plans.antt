@@ -14,7 +14,7 @@ use Rattle.heap_terms.specs.Heap.{NamedHeap, zero_value}
 use Rattle.heap_terms.specs.Objects.{Object, fields_of}
 use Rattle.heap_terms.specs.Simple.{answer_of, effect_of, refusing, changing, fields_at, fields_of_object, with_field_at}
 use Rattle.heap_terms.specs.Valid.{IsCell, IsFixnum}
-use Rattle.heap_terms.specs.Words.{word_of}
+use Rattle.heap_terms.specs.Spelling.{word_of}
 use Rattle.heap_terms.specs.Layout.{fixnum_word}
 use Rattle.lisp_heap.specs.Plan.{IsPlan}
 use Rattle.lisp_heap.specs.LivingWords.{RefersToCons}

@@ -10,7 +10,7 @@ use Rattle.heap_terms.specs.Objects.{Object, Contents, ConsOf, words_of_object}
 use Rattle.heap_terms.specs.Simple.{with_field_at, object_with_field, with_field}
 use Rattle.heap_terms.specs.Stands.{WordsStand, SlotsStand, KeptStand}
 use Rattle.heap_terms.specs.WellFormed.{IsWellFormed, AreApart, IsPlaced}
-use Rattle.heap_terms.specs.Words.{word_of}
+use Rattle.heap_terms.specs.Spelling.{word_of}
 use Rattle.heap_laws.proofs.AtPlaces.{IfSome-at, IfSome-from, IsSome-from}
 use Rattle.lisp_heap.proofs.ObjectLemmas.{word_of-with_field_at, name_below}
 use Rattle.lisp_heap.proofs.WordLemmas.{AreConses, cons_words, cons_at, cons_spelled, nothing_kept, no_fillers, outside}

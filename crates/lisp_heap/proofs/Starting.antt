@@ -11,7 +11,7 @@ use Rattle.heap_terms.specs.Layout.{page_words}
 use Rattle.heap_terms.specs.Objects.{Object}
 use Rattle.heap_terms.specs.Stands.{WordsStand}
 use Rattle.heap_terms.specs.Valid.{IsValid}
-use Rattle.heap_terms.specs.Words.{word_of}
+use Rattle.heap_terms.specs.Spelling.{word_of}
 use Rattle.heap_laws.proofs.SoundHeaps.{start_thread_is, start-well_formed}
 use Rattle.lisp_heap.specs.CellsView.{spot, zero_cells}
 use Rattle.lisp_heap.specs.Sound.{IsSound, parts_of}

@@ -8,7 +8,7 @@ use Rattle.heap_terms.specs.Layout.{page_words}
 use Rattle.heap_terms.specs.Objects.{Object, Contents, ConsOf, words_of_object}
 use Rattle.heap_terms.specs.Stands.{WordsStand, SlotsStand, KeptStand}
 use Rattle.heap_terms.specs.WellFormed.{IsWellFormed, IsOwned}
-use Rattle.heap_terms.specs.Words.{word_of}
+use Rattle.heap_terms.specs.Spelling.{word_of}
 use Rattle.heap_laws.proofs.AtPlaces.{IfSome-at}
 
 -- each object is a cons: so far no other kind is built

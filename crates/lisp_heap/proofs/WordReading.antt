@@ -1,5 +1,6 @@
 -- What the words of a sound World are read as.
-use Rattle.std.proofs.Common.{◌≡◌, ℕ, ◌+◌, ◌*◌, ◌/◌, ◌%◌, ◌^◌, ◌<◌, ◌≤◌, List, length, refl, sym, ◌∙◌, subst, ap, arith, get_or, Some, None, pos, negsuc, ℤ}
+use Rattle.std.proofs.Common.{◌≡◌, ℕ, ◌+◌, ◌*◌, ◌/◌, ◌%◌, ◌^◌, ◌<◌, ◌≤◌, List, length, refl, sym, ◌∙◌, subst, ap, arith, get_or, Some, None, Option, IsSome, inl, inr, pos, negsuc, ℤ}
+use Rattle.std.proofs.lemmas.Bool.{cases_lt}
 use Rattle.std.proofs.lemmas.List.{get_or_default}
 use Rattle.std.proofs.lemmas.Option.{slice_get_past, slice_get_read}
 use Rattle.std.specs.Prelude.{slice_index, slice_get}
@@ -18,7 +19,7 @@ use Rattle.heap_terms.specs.Objects.{Object, Contents, ConsOf, kind_of, words_of
 use Rattle.heap_terms.specs.Simple.{fields_at}
 use Rattle.heap_terms.specs.Valid.{IsCell, IsFixnum}
 use Rattle.heap_terms.specs.WellFormed.{IsLiving}
-use Rattle.heap_terms.specs.Words.{word_of, word_of_object}
+use Rattle.heap_terms.specs.Spelling.{word_of, word_of_object}
 use Rattle.heap_laws.proofs.AtPlaces.{IfSome-at, IsSome-value}
 use Rattle.heap_laws.proofs.SoundHeaps.{cell_living}
 use Rattle.lisp_words.specs.Tagged.{IsTagged, tag_bits}
@@ -73,6 +74,19 @@ no_command s h t state script lt state_ok script_ok past =
     let at_place : slice_get script (thread_at (heap s) t).done ≡ None =
     subst (λ (n : ℕ). slice_get script n ≡ None) (ap (λ (x : ThreadState). x.done) known) found in
     sym (subst (λ (xs : List Command). slice_get xs (thread_at (heap s) t).done ≡ None) same_script at_place)
+
+none_there : (o : Option Command) → o ≡ None → IsSome o → ⊥
+none_there None e h = cc
+none_there (Some c) e h = cc
+
+-- a thread whose command is not done is not at the end of its script
+pub command_left : (s : Inside) → IsSound s → (t : ℕ) (state : ThreadState) (script : List Command) → t < length s.program.threads →
+    state ≡ get_or s.states t state → script ≡ get_or s.program.threads t script → IsSome (command_at s.program (heap s) t) →
+    state.done < length script
+command_left s h t state script lt state_ok script_ok there = elim (cases_lt state.done (length script)) [
+  | inl below ↦ below
+  | inr past ↦ (let none = no_command s h t state script lt state_ok script_ok past in absurd (none_there (command_at s.program (heap s) t) (sym none) there))
+]
 
 -- a cell's word is that of its living value
 pub cell_is : (s : Inside) → IsSound s → (t : ℕ) (cell : Cell) → t < length s.program.threads → IsCell cell →

@@ -3,7 +3,7 @@ use Rattle.std.specs.Prelude.{◌≡◌, []}
 use Rattle.std.specs.Option.{ForSome}
 use Rattle.heap_terms.specs.declared.kinds.PageType.{PageType}
 use Rattle.heap_terms.specs.Fresh.{fresh_contents}
-use Rattle.heap_terms.specs.Words.{spelling}
+use Rattle.heap_terms.specs.Spelling.{spelling}
 use Rattle.lisp_heap.specs.ParcelView.{LeaseView}
 use Rattle.lisp_heap.specs.declared.parcels.Lease.{Lease}
 use Rattle.lisp_heap.specs.declared.parcels.Making.{Making}

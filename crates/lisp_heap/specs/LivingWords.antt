@@ -6,7 +6,7 @@ use Rattle.heap_terms.specs.Heap.{NamedHeap, object_at}
 use Rattle.heap_terms.specs.Objects.{Object, ConsOf}
 use Rattle.heap_terms.specs.Simple.{fields_at}
 use Rattle.heap_terms.specs.WellFormed.{IsLiving}
-use Rattle.heap_terms.specs.Words.{word_of}
+use Rattle.heap_terms.specs.Spelling.{word_of}
 
 -- the word of a living value
 pub record IsWord (a : NamedHeap) (word : ℕ) : Type 0 where

@@ -10,7 +10,7 @@ use Rattle.heap_terms.specs.Heap.{NamedHeap, object_at}
 use Rattle.heap_terms.specs.Objects.{Object, ConsOf}
 use Rattle.heap_terms.specs.Simple.{answer_of, effect_of, with_field_at}
 use Rattle.heap_terms.specs.Valid.{IsCell}
-use Rattle.heap_terms.specs.Words.{word_of}
+use Rattle.heap_terms.specs.Spelling.{word_of}
 use Rattle.lisp_heap.specs.CellsView.{CellsView, HasCells, with_cell_word}
 use Rattle.lisp_heap.specs.declared.plan.Change.{Change}
 use Rattle.lisp_heap.specs.declared.plan.Change.TheVariants as changes

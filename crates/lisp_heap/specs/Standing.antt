@@ -2,7 +2,7 @@
 use Rattle.std.specs.Prelude.{◌≡◌, ℕ, ◌*◌, ◌/◌, ◌<◌, List, length, map, IfSome, slice_index, slice_index_or}
 use Rattle.heap_terms.specs.Heap.{NamedHeap, thread_at, object_at, zero_value}
 use Rattle.heap_terms.specs.Stands.{WordsStand}
-use Rattle.heap_terms.specs.Words.{word_of}
+use Rattle.heap_terms.specs.Spelling.{word_of}
 use Rattle.lisp_heap.specs.CellsView.{CellsView, cells_each, spot}
 use Rattle.lisp_heap.specs.Parts.{Parts, page_labels}
 use Rattle.lisp_heap.specs.State.{state_of}

@@ -14,7 +14,6 @@ ghost use Rattle.lisp_heap.specs.ParcelView.{ParcelView, empty_parcel, with_acce
 ghost use Rattle.lisp_heap.specs.View.{heap_of, next_of};
 
 use crate::parcels::Parcel;
-use crate::states::{advance, end_state, open_cons};
 use crate::world::World;
 use alloc_region::Region;
 use heap_terms::{Answer, Command, Event, Kind, Memory, Owned, PAGE_WORDS, PageType, Refusal};
@@ -70,13 +69,13 @@ impl World {
         ensures agrees { OnOk result ((q : ParcelView) → Agrees (heap_of self.old) q → Agrees (heap_of self.new) q) }
         ensures err { OnErr result (self.new ≡ self.old) }
     {
-        let command = self.command(t as usize).unwrap();
+        let command = self.current(t as usize);
         self.history.push(Event::Did {
             thread: t,
             command,
             answer: Answer::Refused(Refusal::Exhausted),
         })?;
-        advance(&mut self.states, t as usize);
+        self.states.advance(t as usize);
         Ok(())
     }
 
@@ -102,7 +101,7 @@ impl World {
             })
             .unwrap();
         self.pages.take_run(first, 1, PageType::Cons, 0);
-        open_cons(&mut self.states, t as usize, first);
+        self.states.open_cons(t as usize, first);
         Ok(region)
     }
 
@@ -141,7 +140,7 @@ impl World {
         ensures others { OnOk result (OthersAgree (heap_of self.old) (heap_of self.new) t) }
         ensures err { OnErr result (self.new ≡ self.old) }
     {
-        let command = self.command(t as usize).unwrap();
+        let command = self.current(t as usize);
         let Command::NewCons { d, a, b } = command else {
             unreachable!();
         };
@@ -160,7 +159,7 @@ impl World {
             .set_fill(index / PAGE_WORDS, index % PAGE_WORDS + 2);
         self.cells.write(t as usize, d, tag(index, Kind::Cons));
         self.commits += 1;
-        advance(&mut self.states, t as usize);
+        self.states.advance(t as usize);
         Ok(name)
     }
 
@@ -195,7 +194,7 @@ impl World {
     {
         self.history.push(Event::Ended { thread: t })?;
         self.cells.clear(t as usize);
-        end_state(&mut self.states, t as usize);
+        self.states.end(t as usize);
         Ok(())
     }
 }

@@ -7,7 +7,7 @@ ghost use Rattle.lisp_heap.specs.Parts.{fresh_parts};
 
 use crate::cells::CellWords;
 use crate::parcels::Parcel;
-use crate::states::fresh_states;
+use crate::states::States;
 use crate::world::World;
 use heap_terms::{Memory, Program};
 use page_table::PageTable;
@@ -43,7 +43,7 @@ impl World {
         let pages = PageTable::new(alloc, program.pages)?;
         let labels = Prefilled::new(alloc, PAGE_LABELS * program.pages as usize, 0)?;
         let cells = CellWords::new(alloc, threads)?;
-        let states = fresh_states(alloc, threads)?;
+        let states = States::fresh(alloc, threads)?;
         let parcels = fresh_parcels(alloc, threads as u32)?;
         let world = World {
             alloc,

@@ -10,7 +10,7 @@ ghost use Rattle.heap_terms.specs.Cells.{cell_value};
 ghost use Rattle.heap_terms.specs.Histories.{command_at};
 ghost use Rattle.heap_terms.specs.Valid.{IsCell, IsFixnum};
 ghost use Rattle.heap_terms.specs.WellFormed.{IsLiving};
-ghost use Rattle.heap_terms.specs.Words.{word_of};
+ghost use Rattle.heap_terms.specs.Spelling.{word_of};
 ghost use Rattle.lisp_heap.specs.Plan.{IsPlan};
 ghost use Rattle.lisp_heap.specs.LivingWords.{IsWord, IsConsAt};
 ghost use Rattle.lisp_heap.specs.View.{heap_of, next_of};
@@ -70,7 +70,8 @@ impl World {
     }
 
     /// `fix`.
-    fn fixed(&self, t: usize, d: Cell, n: i64) -> Plan
+    #[inline(always)]
+    pub(crate) fn fixed(&self, t: usize, d: Cell, n: i64) -> Plan
         requires d { IsCell d }
         requires n { IsFixnum n }
         ensures { IsPlan (heap_of self.now) t (commands.Fix d n) result.answer result.change }
@@ -83,7 +84,8 @@ impl World {
     }
 
     /// `show`.
-    fn shown(&self, t: usize, c: Cell) -> Plan
+    #[inline(always)]
+    pub(crate) fn shown(&self, t: usize, c: Cell) -> Plan
         requires thread { t < length self.now.program.threads }
         requires c { IsCell c }
         ensures { IsPlan (heap_of self.now) t (commands.Show c) result.answer result.change }
@@ -98,7 +100,8 @@ impl World {
     }
 
     /// `get`.
-    fn got(&self, t: usize, d: Cell, c: Cell, i: u32) -> Plan
+    #[inline(always)]
+    pub(crate) fn got(&self, t: usize, d: Cell, c: Cell, i: u32) -> Plan
         requires thread { t < length self.now.program.threads }
         requires d { IsCell d }
         requires c { IsCell c }
@@ -121,7 +124,8 @@ impl World {
     }
 
     /// `put`.
-    fn put(&self, t: usize, c: Cell, i: u32, a: Cell) -> Plan
+    #[inline(always)]
+    pub(crate) fn put(&self, t: usize, c: Cell, i: u32, a: Cell) -> Plan
         requires thread { t < length self.now.program.threads }
         requires c { IsCell c }
         requires a { IsCell a }
@@ -143,24 +147,6 @@ impl World {
                 index: index + i,
                 word,
             },
-        }
-    }
-
-    /// What thread t's command does, which allocates nothing.
-    pub(crate) fn plan(&self, t: usize, command: Command) -> Plan
-        requires thread { t < length self.now.program.threads }
-        requires command { command_at self.now.program (heap_of self.now) t ≡ Some command }
-        requires simple { next_of self.now t ≡ Next.Simple }
-        ensures { IsPlan (heap_of self.now) t command result.answer result.change }
-    {
-        // Looked into here, so that what follows may use what a World keeps true.
-        let _program = &self.program;
-        match command {
-            Command::Fix { d, n } => self.fixed(t, d, n),
-            Command::Show { c } => self.shown(t, c),
-            Command::Get { d, c, i } => self.got(t, d, c, i),
-            Command::Put { c, i, a } => self.put(t, c, i, a),
-            _ => unreachable!(),
         }
     }
 }

@@ -1,6 +1,6 @@
 //! The journal of a history as bytes. Each function appends to one buffer, so that no byte is
-//! copied twice. A line reserves its room at its start; the functions that write its fields say by the
-//! names in `room` how much of it they need at most.
+//! copied twice. A line reserves its room at its start; the functions that write its fields say by
+//! the names in `room` how much of it they need at most.
 
 ghost use Rattle.std.specs.Prelude.{◌≡◌, ◌+◌, ◌≤◌, ◌++◌, OnOk, IfOk, codes, decimal, flat_map};
 ghost use Rattle.heap_terms.specs.Text.{event_text, journal_text, line, field, number_field, type_text};
@@ -9,6 +9,7 @@ mod answers;
 mod buffer;
 mod commands;
 mod fields;
+mod numbers;
 mod pages;
 mod passes;
 mod room;
@@ -16,8 +17,9 @@ mod room;
 use answers::push_answer_line;
 use buffer::Text;
 use commands::push_command;
-use fields::{push, push_number, push_number_field};
+use fields::push;
 use heap_terms::{Event, Memory, PageType};
+use numbers::{push_number, push_number_field};
 use pages::push_type;
 use passes::push_passes;
 use room::{DONE_LINE, EVENT_LINE, OPENED_LINE};
@@ -40,7 +42,7 @@ pub(crate) fn journal_of(alloc: Global, events: &[Event]) -> Result<Vec<u8>, Mem
     Ok(out.into_bytes())
 }
 
-// Appends the lines of events.
+/// Appends the lines of events.
 fn push_events(out: &mut Text, events: &[Event]) -> Result<(), AllocError>
     ensures { OnOk result (out.new.text ≡ out.old.text ++ flat_map event_text events.now) }
 {
@@ -50,7 +52,7 @@ fn push_events(out: &mut Text, events: &[Event]) -> Result<(), AllocError>
     Ok(())
 }
 
-// Appends the lines of an event.
+/// Appends the lines of an event.
 #[tactic(auto, unfolding(heap_terms::specs::Text::event_text))]
 fn push_event(out: &mut Text, event: &Event) -> Result<(), AllocError>
     ensures { OnOk result (out.new.text ≡ out.old.text ++ event_text event.now) }
@@ -94,7 +96,7 @@ fn push_event(out: &mut Text, event: &Event) -> Result<(), AllocError>
     }
 }
 
-// Appends the line of an opened region.
+/// Appends the line of an opened region.
 fn push_opened(out: &mut Text, thread: u32, ty: PageType, first: u32, pages: u32)
     requires { OPENED_LINE ≤ out.old.room }
     ensures { out.new.text ≡ out.old.text

@@ -5,7 +5,7 @@ ghost use Rattle.heap_terms.specs.declared.pages.Entry.TheVariants as entries;
 ghost use Rattle.heap_terms.specs.declared.limits.TheConstants.{MOST_PAGES};
 ghost use Rattle.heap_terms.specs.Heap.{entry_at};
 ghost use Rattle.heap_terms.specs.Layout.{page_words};
-ghost use Rattle.heap_terms.specs.Regions.{is_free, IsRun, IsLowestRun, HasNoRun, with_run, with_fill};
+ghost use Rattle.heap_terms.specs.Regions.{is_free, IsFreeRun, IsLowestRun, HasNoRun, with_run, with_fill};
 ghost use Rattle.heap_terms.specs.PageRuns.{with_run_of, with_generation, run_first_of};
 ghost use Rattle.page_table.specs.Unpacked.{unpacked_all};
 
@@ -88,7 +88,7 @@ impl PageTable {
     /// Takes a run of k free pages from `first` on: each page gets the type and the generation, is
     /// empty, and belongs to this run. Every other entry stays.
     pub fn take_run(&mut self, first: u32, k: u32, ty: PageType, generation: u8)
-        requires { IsRun self.old first k }
+        requires { IsFreeRun self.old first k }
         ensures taken { self.new ≡ with_run_of self.old first k ty generation }
         ensures opened { generation ≡ 0 → self.new ≡ with_run self.old first k ty }
     {

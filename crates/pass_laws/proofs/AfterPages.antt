@@ -22,10 +22,11 @@ use Rattle.heap_terms.specs.Placement.{Placement, scratch, placement}
 use Rattle.heap_terms.specs.Regions.{is_small, pages_needed}
 use Rattle.heap_terms.specs.Sound.{IsSound}
 use Rattle.heap_terms.specs.Survival.{surviving}
-use Rattle.pass_laws.proofs.Landing.{IsTaken, moved_object}
+use Rattle.pass_laws.specs.Spread.{settled}
+use Rattle.pass_laws.proofs.Landing.{IsTaken}
 use Rattle.pass_laws.proofs.Lookups.{found_at, in_filter, filter_in, made_at, made_length}
 use Rattle.pass_laws.proofs.Sizes.{needs_least}
-use Rattle.pass_laws.proofs.Spreading.{IsPlacing, IsSpread, IsMoveOf, settled, is_in, placement-keeps, moved_to-none}
+use Rattle.pass_laws.proofs.Spreading.{IsPlacing, IsMoveOf, is_in, placement-keeps, moved_to-none}
 
 -- what remains of an object has its kind and its size
 pub surviving-kind : (live : ℕ → Bool) (k : Contents) → kind_of (surviving live k) ≡ kind_of k
@@ -108,6 +109,12 @@ moved_listed moves x index e = elim (cases_Bool (is_in moves x)) [
 abbrev pub new_generation : PassRecord → ℕ → ℕ
 new_generation r g = if g == r.generation || g == scratch then r.target else g
 
+-- an object after the pass
+pub object_at-after : (a : NamedHeap) (r : PassRecord) (x : ℕ) → object_at (after_pass a r).objects x ≡ object_after a r x (object_at a.objects x)
+unfolding after_pass
+object_at-after a r x = made_at (λ name. object_after a r name (object_at a.objects name)) (length a.objects) x None
+    (λ l. ap (object_after a r x) (get_or_past a.objects x None l))
+
 module _ (a : NamedHeap) (g h : ℕ) (r : PassRecord) (sound : IsSound a) (pass : IsPass a g h r) where
   -- the placement of the record's order
   pub spread : IsPlacing a (placement a (order_of r))
@@ -117,12 +124,7 @@ module _ (a : NamedHeap) (g h : ℕ) (r : PassRecord) (sound : IsSound a) (pass 
       rw (get_or-map (λ (k : Placing). k.name) r.moves i d 0 (omega arith), get_or-map (λ (k : Placing). k.name) r.moves j d 0 (omega arith))
       (pass.once i j d l (omega arith))))
 
-  -- objects, and entries of pages, after the pass
-  pub object_is : (x : ℕ) → object_at (after_pass a r).objects x ≡ object_after a r x (object_at a.objects x)
-  unfolding after_pass
-  object_is x = made_at (λ name. object_after a r name (object_at a.objects name)) (length a.objects) x None
-      (λ l. ap (object_after a r x) (get_or_past a.objects x None l))
-
+  -- entries of pages after the pass
   pub entry_is : (page : ℕ) → entry_at (after_pass a r).pages page ≡ entry_after r page (entry_at (placement a (order_of r)).pages page)
   unfolding after_pass
   entry_is page = made_at (λ page. entry_after r page (entry_at (placement a (order_of r)).pages page)) (length (placement a (order_of r)).pages) page Free

@@ -30,11 +30,12 @@ use Rattle.heap_terms.specs.Regions.{is_small, pages_needed}
 use Rattle.heap_terms.specs.Sound.{IsSound, IsObject, IsFinalizer}
 use Rattle.heap_terms.specs.Survival.{keeps_pair, is_kept, surviving, registered, queued_of}
 use Rattle.heap_terms.specs.Layout.{size_of}
-use Rattle.pass_laws.proofs.AfterPages.{IsSameSpace, IsRegenerated, IsPlaced-regenerated, surviving-kind, surviving-payload, moved_listed, new_generation, spread, object_is, entry_is, pages_long, freed_page, page_freed, used_after, not_freed}
+use Rattle.pass_laws.specs.Spread.{settled}
+use Rattle.pass_laws.proofs.AfterPages.{IsSameSpace, IsRegenerated, IsPlaced-regenerated, surviving-kind, surviving-payload, moved_listed, new_generation, object_at-after, spread, entry_is, pages_long, freed_page, page_freed, used_after, not_freed}
 use Rattle.pass_laws.proofs.Landing.{IsTaken}
 use Rattle.pass_laws.proofs.Lookups.{found_at}
 use Rattle.pass_laws.proofs.Sizes.{words_least, small_needs}
-use Rattle.pass_laws.proofs.Spreading.{IsPlacing, settled, settled-words, is_in}
+use Rattle.pass_laws.proofs.Spreading.{IsPlacing, is_in}
 
 -- an object that remains, after the pass
 abbrev pub object_then : NamedHeap → PassRecord → ℕ → Object → Object
@@ -163,7 +164,7 @@ AreBelow-map n entries h is i = elim (cases_lt i (length entries)) [
 
 module _ (a : NamedHeap) (g h : ℕ) (r : PassRecord) (sound : IsSound a) (pass : IsPass a g h r) where
   pub remaining : (x : ℕ) (new : Object) → object_at (after_pass a r).objects x ≡ Some new → Remains a r x new
-  remaining x new e = go (object_at a.objects x) refl (sym (object_is a g h r sound pass x) ∙ e)
+  remaining x new e = go (object_at a.objects x) refl (sym (object_at-after a r x) ∙ e)
     where
       go : (q : Option Object) → object_at a.objects x ≡ q → object_after a r x q ≡ Some new → Remains a r x new
       go None at e = cc
@@ -174,7 +175,7 @@ module _ (a : NamedHeap) (g h : ℕ) (r : PassRecord) (sound : IsSound a) (pass 
       ]
 
   pub remains_after : (x : ℕ) (o : Object) → object_at a.objects x ≡ Some o → remains a r x ≡ true → object_at (after_pass a r).objects x ≡ Some (object_then a r x o)
-  remains_after x o at live = object_is a g h r sound pass x ∙ ap (object_after a r x) at ∙ rw live refl
+  remains_after x o at live = object_at-after a r x ∙ ap (object_after a r x) at ∙ rw live refl
 
   -- a live value that was living is living after the pass
   pub living_after : (v : Value) → IsLiving a.objects v → is_live (remains a r) v ≡ true → IsLiving (after_pass a r).objects v

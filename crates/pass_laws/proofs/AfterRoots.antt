@@ -20,16 +20,13 @@ use Rattle.heap_terms.specs.Passes.{IsPass, remains, order_of, entry_after, afte
 use Rattle.heap_terms.specs.Placement.{scratch, placement}
 use Rattle.heap_terms.specs.Roots.{thread_words, ambiguous_words, hits, is_hit}
 use Rattle.heap_terms.specs.WellFormed.{IsWellFormed, IsThread, IsLiving, AreLiving, IsCollected, IsOpenPage, IsOpenRun}
-use Rattle.heap_terms.specs.Words.{word_of}
+use Rattle.heap_terms.specs.Spelling.{word_of}
+use Rattle.pass_laws.specs.NoRegions.{HasNoRegions}
 use Rattle.pass_laws.proofs.AfterPages.{new_generation, spread, entry_is, pages_long, objects_long}
 use Rattle.pass_laws.proofs.AfterPass.{object_then, Remains, remaining, living_after, list_living_after, pass_sound}
 use Rattle.pass_laws.proofs.Landing.{IsTaken}
 use Rattle.pass_laws.proofs.Lookups.{any_left, any-flat_map, all_zero}
 use Rattle.pass_laws.proofs.Spreading.{IsPlacing}
-
--- no thread has an open page or run
-abbrev pub HasNoRegions : NamedHeap → Type 0
-HasNoRegions a = (t : ℕ) → ((ty : PageType) → open_page (thread_at a t) ty ≡ None) × ((thread_at a t).open_run ≡ None)
 
 -- a name in a cell s is hit
 pub stack_hits : (a : NamedHeap) (t i x : ℕ) → IsSome (object_at a.objects x) → get_or (thread_at a t).stack i zero_value ≡ values.Ref x → is_hit a x ≡ true

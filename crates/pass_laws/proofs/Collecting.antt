@@ -14,8 +14,9 @@ use Rattle.heap_terms.specs.Objects.{Object}
 use Rattle.heap_terms.specs.Passes.{IsPass, after_pass}
 use Rattle.heap_terms.specs.Policy.{promotes, is_raised, is_continued, raises, goes_on, target_of, cum_after, num_after}
 use Rattle.heap_terms.specs.WellFormed.{IsWellFormed, IsThread, IsSound}
+use Rattle.pass_laws.specs.NoRegions.{HasNoRegions, IsEmptyBelow}
 use Rattle.pass_laws.proofs.AfterPass.{Remains, remaining}
-use Rattle.pass_laws.proofs.AfterRoots.{HasNoRegions, pass_well_formed, same_threads}
+use Rattle.pass_laws.proofs.AfterRoots.{pass_well_formed}
 use Rattle.pass_laws.proofs.PassExists.{pass_exists}
 
 -- what a raise and a going on say of the generation, whether promotion is built or not
@@ -126,10 +127,6 @@ module _ (p : Program) where
 add_zero : (n : ℕ) → n + 0 ≡ n
 add_zero n = omega arith
 
--- no object is of a generation below g
-abbrev pub IsEmptyBelow : NamedHeap → ℕ → Type 0
-IsEmptyBelow a g = (x : ℕ) (o : Object) → object_at a.objects x ≡ Some o → g ≤ o.generation
-
 -- a pass that raises empties its generation
 raised-empty : (a : NamedHeap) (last g : ℕ) (r : PassRecord) → IsSound a → IsPassOf a last g r → raises a last g ≡ true → IsEmptyBelow a g → IsEmptyBelow (after_pass_of a last g r) (g + 1)
 raised-empty a last g r sound pass raised empty x new e =
@@ -170,6 +167,13 @@ below-empty p a last g (q ∷ s ∷ front) r rest low w none empty are =
     let b = below-empty p (after_pass_of a last g q) last (g + 1) (s ∷ front) r rest (omega arith) first.0 first.1 (raised-empty a last g q w.sound are.0 raised empty) are.2 in
     let same : (g + 1) + length (s ∷ front) ≡ g + length (q ∷ s ∷ front) = omega arith in
     subst (λ (n : ℕ). IsEmptyBelow (after_passes a last g (q ∷ s ∷ front)) n × IsPassOf (after_passes a last g (q ∷ s ∷ front)) last n r) same b
+
+pub younger-empty : (p : Program) (a : NamedHeap) (last : ℕ) (front : List PassRecord) (r : PassRecord) (rest : List PassRecord) → IsWellFormed p a → HasNoRegions a →
+    ArePasses a last 0 (front ++ r ∷ rest) → IsEmptyBelow (after_passes a last 0 front) (length front) × IsPassOf (after_passes a last 0 front) last (length front) r
+younger-empty p a last front r rest w none are =
+    let b = below-empty p a last 0 front r rest (omega arith) w none (λ x o e. omega arith) are in
+    let same : 0 + length front ≡ length front = omega arith in
+    subst (λ (n : ℕ). IsEmptyBelow (after_passes a last 0 front) n × IsPassOf (after_passes a last 0 front) last n r) same b
 
 -- all threads after their regions were closed
 closed_at : (a : NamedHeap) (t : ℕ) → thread_at (closed a) t ≡ closed_thread (thread_at a t)

@@ -1,7 +1,7 @@
 -- What the lowest run of free pages is, and the entries after a run was taken.
 use Rattle.std.proofs.Common.{◌≡◌, ℕ, zero, suc, ◌+◌, ◌-◌, ◌*◌, ◌/◌, ◌<◌, ◌≤◌, List, [], ◌∷◌, ◌++◌, length, get_or, take, drop, replicate, Option, Some, None, Bool, true, false, ◌⊎◌, inl, inr, refl, sym, ◌∙◌, subst, ap, arith}
 use Rattle.std.proofs.lemmas.Bool.{cases_lt, cases_eq, cases_Bool, and_parts, and_from, leb-true, le-leb, false≢true}
-use Rattle.std.proofs.lemmas.List.{length-append, length-take, length-take-le, length-drop, length-replicate, get_or_append_left, get_or-append_right, get_or-take, get_or-drop, get_or-replicate}
+use Rattle.std.proofs.lemmas.List.{length-append, length-take, length-take-le, length-drop, length-replicate, get_or_append_left, get_or-append_right, get_or-take, get_or-drop, get_or-replicate, get_or_default}
 use Rattle.std.proofs.lemmas.List.Sums.{AllPass-from_list_all, list_all-from_AllPass}
 use Rattle.std.proofs.lemmas.Option.{same_Some}
 use Rattle.std.specs.List.{list_all, range_with_len}
@@ -12,7 +12,7 @@ use Rattle.heap_terms.specs.declared.pages.Entry.TheVariants.{Free, Used}
 use Rattle.heap_terms.specs.Heap.{entry_at}
 use Rattle.heap_terms.specs.Layout.{page_words}
 use Rattle.heap_terms.specs.Placement.{scratch, is_free_run, lowest_run, taken_run}
-use Rattle.heap_terms.specs.Regions.{is_free}
+use Rattle.heap_terms.specs.Regions.{is_free, IsFreeRun, IsLowestRun, HasNoRun}
 
 pub find_passes : {X : Type 0} (p : X → Bool) (xs : List X) (x : X) → find p xs ≡ Some x → p x ≡ true
 find_passes p [] x e = cc
@@ -80,3 +80,57 @@ taken_entries pages ty first k size least inside =
       last = get_or-append_right front (z ∷ rest) (first + (k - 1)) (first + (k - 1)) Free front_length (omega arith)
           ∙ (let at : (first + (k - 1)) - (first + (k - 1)) ≡ 0 = omega arith in rw at refl);
     }
+
+-- what is found first in a range, and what none found says
+find_first : (p : ℕ → Bool) (from n x : ℕ) → find p (range_with_len from n) ≡ Some x → (y : ℕ) → from ≤ y → y < x → p y ≡ false
+find_first p from zero x e y low high = cc
+find_first p from (suc n) x e y low high = elim (cases_Bool (p from)) [
+  | inl here ↦ (let same : from ≡ x = same_Some from x (rw here at e) in absurd (omega arith))
+  | inr gone ↦ elim (cases_eq from y) [
+    | inl same ↦ subst (λ (z : ℕ). p z ≡ false) same gone
+    | inr apart ↦ find_first p (from + 1) n x (rw gone at e) y (omega arith) high
+  ]
+]
+
+find_none : (p : ℕ → Bool) (from n : ℕ) → find p (range_with_len from n) ≡ None → (y : ℕ) → from ≤ y → y < from + n → p y ≡ false
+find_none p from zero e y low high = absurd (omega (arith, low, high))
+find_none p from (suc n) e y low high = elim (cases_Bool (p from)) [
+  | inl here ↦ (let never : Some from ≡ None = rw here at e in cc)
+  | inr gone ↦ elim (cases_eq from y) [
+    | inl same ↦ subst (λ (z : ℕ). p z ≡ false) same gone
+    | inr apart ↦ find_none p (from + 1) n (rw gone at e) y (omega arith) (omega arith)
+  ]
+]
+
+-- a run of free pages, tested and said
+run_from : (pages : List Entry) (first k : ℕ) → is_free_run pages k first ≡ true → IsFreeRun pages first k
+run_from pages first k e =
+    let run = free_run pages k first e in
+    record {
+      inside = run.inside;
+      free = λ i low high. (let at : first + (i - first) ≡ i = omega arith in
+          subst (λ (j : ℕ). is_free (entry_at pages j) ≡ true) at (ap is_free (run.free (i - first) (omega arith))));
+    }
+
+from_run : (pages : List Entry) (first k : ℕ) → IsFreeRun pages first k → is_free_run pages k first ≡ true
+from_run pages first k h =
+    let inside = h.inside in
+    and_from (nat_le (first + k) (length pages)) _ (le-leb (first + k) (length pages) inside)
+    (list_all-from_AllPass is_free (take k (drop first pages)) (λ i d l.
+    (let short : i < k = (let m = length-take k (drop first pages) in omega arith) in
+    let inner : i < length (drop first pages) = (let m = length-take k (drop first pages) in omega arith) in
+    let same : get_or (take k (drop first pages)) i d ≡ entry_at pages (first + i) =
+    get_or-take k (drop first pages) i d short ∙ get_or_default (drop first pages) i d Free inner ∙ get_or-drop first pages i Free in
+    rw same (h.free (first + i) (omega arith) (omega arith)))))
+
+-- the lowest run is the lowest, and where there is none there is no run
+pub lowest_is : (pages : List Entry) (k first : ℕ) → 1 ≤ k → lowest_run pages k ≡ Some first → IsLowestRun pages first k
+lowest_is pages k first least e = record {
+  run = run_from pages first k (find_passes (is_free_run pages k) (range_with_len 0 (length pages)) first e);
+  lowest = λ lower l run. false≢true (sym (find_first (is_free_run pages k) 0 (length pages) first e lower (omega arith) l) ∙ from_run pages lower k run);
+}
+
+pub lowest_none : (pages : List Entry) (k : ℕ) → 1 ≤ k → lowest_run pages k ≡ None → HasNoRun pages k
+lowest_none pages k least e first run =
+    let inside = run.inside in
+    false≢true (sym (find_none (is_free_run pages k) 0 (length pages) e first (omega arith) (omega arith)) ∙ from_run pages first k run)

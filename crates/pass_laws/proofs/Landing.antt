@@ -14,6 +14,7 @@ use Rattle.heap_terms.specs.Objects.{Object, kind_of, words_of_object}
 use Rattle.heap_terms.specs.Placement.{Placement, scratch, page_in_use, using_page, fits_on, end_of, goes_to, lowest_run, taken_run, filled}
 use Rattle.heap_terms.specs.Regions.{is_small, pages_needed}
 use Rattle.heap_terms.specs.OnPages.{IsFill, IsPlaced, IsOnPage, IsPageOfRun, SaysOfRun, IsInRun}
+use Rattle.pass_laws.specs.Spread.{moved_object}
 use Rattle.pass_laws.proofs.FreeRuns.{AreFree, lowest_free, IsTakenRun, taken_entries}
 use Rattle.pass_laws.proofs.Sizes.{IsBelowFill, words_least, words_even, small_most, large_least, small_needs, large_needs, needs_least}
 
@@ -45,10 +46,6 @@ EntryStep e new = (new ≡ e) ⊎ ((e ≡ Free) × IsTaken new) ⊎ IsFilled e n
 abbrev pub AreInUse : Placement → Type 0
 AreInUse s = (ty : PageType) (page : ℕ) → page_in_use s ty ≡ Some page →
     (fill : ℕ) × (entry_at s.pages page ≡ Used ty scratch fill page 1) × IsFill fill
-
--- an object at another place, with the scratch generation
-abbrev pub moved_object : Object → ℕ → Object
-moved_object o index = record o { generation = scratch; place = index }
 
 -- what there is to know of a step that put an object at an index
 pub record Lands (s new : Placement) (o : Object) (index : ℕ) : Type 0 where

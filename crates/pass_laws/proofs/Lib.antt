@@ -11,3 +11,6 @@ pub mod LiveThere
 pub mod PinLists
 pub mod PassExists
 pub mod Collecting
+pub mod Reaching
+pub mod Determined
+pub mod Ranges

@@ -19,8 +19,9 @@ use Rattle.heap_terms.specs.Placement.{Placement, scratch, no_placement, page_in
 use Rattle.heap_terms.specs.Regions.{is_small, pages_needed}
 use Rattle.heap_terms.specs.Sound.{IsSound}
 use Rattle.heap_terms.specs.OnPages.{IsFill, IsEntry, IsPlaced, IsOnPage, IsPageOfRun, AreApart, SaysOfRun, IsInRun}
+use Rattle.pass_laws.specs.Spread.{moved_object, settled, IsSpread}
 use Rattle.pass_laws.proofs.FreeRuns.{AreFree, lowest_free}
-use Rattle.pass_laws.proofs.Landing.{IsTaken, IsFilled, EntryStep, AreInUse, moved_object, Lands, HasRoom, small_lands, large_lands, used_inside}
+use Rattle.pass_laws.proofs.Landing.{IsTaken, IsFilled, EntryStep, AreInUse, Lands, HasRoom, small_lands, large_lands, used_inside}
 use Rattle.pass_laws.proofs.Sizes.{IsBelowFill, words_least, words_even, small_most, large_needs, large_least, small_needs, apart_above, apart_swapped}
 
 -- a small object goes to a page and a fill
@@ -159,20 +160,9 @@ IsInRun-step pages new page same steps taken h = go (steps page)
         let was : IsInRun pages page (Used filled.ty scratch filled.fill filled.page 1) = subst (λ (x : Entry). IsInRun pages page x) filled.entry h in
         rw filled.entry_new (IsInRun-same pages new page (Used filled.ty scratch filled.fill filled.page 1) same steps was)
 
--- an object at its place so far
-abbrev pub settled : Option ℕ → Object → Object
-settled None o = o
-settled (Some index) o = moved_object o index
-
 pub settled-words : (to : Option ℕ) (o : Object) → words_of_object (settled to o) ≡ words_of_object o
 settled-words None o = refl
 settled-words (Some index) o = refl
-
--- the objects, at their places so far, lie as they must and apart
-pub record IsSpread (objects : List (Option Object)) (moves : List Placing) (pages : List Entry) : Type 0 where
-  pub placed : (x : ℕ) (o : Object) → object_at objects x ≡ Some o → IsPlaced pages (settled (moved_to moves x) o)
-  pub apart : (x y : ℕ) (o q : Object) → x ≢ y → object_at objects x ≡ Some o → object_at objects y ≡ Some q →
-      AreApart (settled (moved_to moves x) o) (settled (moved_to moves y) q)
 
 -- a list of moves has a name
 abbrev pub is_in : List Placing → ℕ → Bool
@@ -380,3 +370,7 @@ unfolding placement
 placement-keeps a order sound once =
     placing-all a (no_placement a.pages) order sound.entries
     (placing-start a (λ x o e. (sound.objects x o e).placed) sound.apart sound.runs) (record { new = λ i l. refl; once = once })
+
+-- and so all objects at their new places are as they must
+pub placement-spread : (a : NamedHeap) (order : List ℕ) → IsSound a → AllPairs (λ (x y : ℕ). x ≢ y) order → IsSpread a.objects (placement a order).moves (placement a order).pages
+placement-spread a order sound once = (placement-keeps a order sound (λ i j l m. once i j 0 l m)).spread

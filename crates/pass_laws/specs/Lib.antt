@@ -1,2 +1,7 @@
+pub mod Spread
+pub mod Reached
+pub mod NoRegions
+pub mod PlainRecords
+pub mod Laws
 pub mod Scripts
 pub mod Worked

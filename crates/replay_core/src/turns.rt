@@ -11,8 +11,8 @@ ghost use Rattle.replay_core.specs.Stepping.{Turns};
 use heap_terms::{Kind, Memory, Next, Owned};
 use lisp_heap::{Parcel, World};
 
-/// One turn of the parcel's owner: whether something happened, which is so unless it has ended. For want of
-/// memory the World is as it was.
+/// One turn of the parcel's owner: whether something happened, which is so unless it has ended. For
+/// want of memory the World is as it was.
 pub fn turn(world: &mut World, parcel: &mut Parcel) -> Result<bool, Memory>
     requires thread { parcel.old.owner < length world.old.program.threads }
     requires agrees { Agrees (heap_of world.old) parcel.old }

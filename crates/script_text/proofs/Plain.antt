@@ -4,7 +4,7 @@ use Rattle.heap_terms.specs.declared.cells.Cell.{Cell}
 use Rattle.heap_terms.specs.declared.commands.Command.{Command}
 use Rattle.heap_terms.specs.declared.commands.Command.TheVariants as commands
 use Rattle.heap_terms.specs.Grammar.{Does, statement_of}
-use Rattle.heap_terms.specs.Reading.{SoFar, InThread, judged, judged_word, within_limits}
+use Rattle.heap_terms.specs.ScriptReading.{SoFar, InThread, judged, judged_word, within_limits}
 use Rattle.script_text.specs.declared.words.Name.{Name}
 use Rattle.script_text.specs.declared.words.Name.TheVariants as names
 use Rattle.script_text.specs.Commands.{Reads, a_cell, an_index, a_fixnum, IsFront, SaysCommand}

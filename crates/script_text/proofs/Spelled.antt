@@ -7,7 +7,7 @@ use Rattle.std.specs.List.{list_all}
 use Rattle.std.proofs.lemmas.Str.{digit_value_digit}
 use Rattle.heap_terms.specs.declared.cells.Cell.{Cell}
 use Rattle.heap_terms.specs.declared.cells.Cell.TheVariants.{Stack, Exact, Shared}
-use Rattle.heap_terms.specs.Fields.{fields_of, is_blank, number_of, cell_number, cell_of, turns_of}
+use Rattle.heap_terms.specs.Fields.{fields_in, is_blank, number_of, cell_number, cell_of, turns_of}
 use Rattle.script_text.specs.Commands.{Reads, a_cell}
 use Rattle.script_text.specs.Left.{ends_field, field_len, fields_left, Taken, IsSolidWord, IsSpelled}
 use Rattle.script_text.proofs.Digits.{digit_yes}
@@ -211,6 +211,6 @@ shared_at bytes digits after m long space kind e b =
 
 -- no field is left before an LF
 pub lf_ends : (bytes : List ℕ) → 1 ≤ length bytes → get_or bytes 0 0 ≡ 10 → length (fields_left bytes) ≡ 0
-unfolding fields_left fields_of
+unfolding fields_left fields_in
 lf_ends [] long lf = absurd (omega arith)
 lf_ends (b ∷ bytes) long lf = rw (lf, lines-lf bytes) refl

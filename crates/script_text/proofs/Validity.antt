@@ -14,9 +14,9 @@ use Rattle.heap_terms.specs.declared.faults.LimitKind.TheVariants as limits
 use Rattle.heap_terms.specs.declared.faults.Why.{Why}
 use Rattle.heap_terms.specs.declared.faults.Why.TheVariants.{Word, Order}
 use Rattle.heap_terms.specs.declared.programs.Program.{Program}
-use Rattle.heap_terms.specs.Fields.{◌>>=◌, between, at_least, is_fixnum, fields_of}
+use Rattle.heap_terms.specs.Fields.{◌>>=◌, between, at_least, is_fixnum, fields_in}
 use Rattle.heap_terms.specs.Grammar.{LispCell, Number, Signed, Statement, Version, HeapOf, AutoOf, NewThread, Does, Turns, EndOfScript, Row, Small, row, said_by, schedule_of, statement_of, turns_of_all, rows}
-use Rattle.heap_terms.specs.Reading.{Place, AtStart, AfterVersion, AfterHeap, AfterAuto, InThread, InSchedule, AfterEnd, SoFar, nothing_read, Refused, Bad, may_follow, place_after, onto_last, with_statement, unless_above, limit_of_command, limit_passed, unless_passed, within_limits, judged_word, judged, Fault, fault_at, finished_at, read_lines, read_script}
+use Rattle.heap_terms.specs.ScriptReading.{Place, AtStart, AfterVersion, AfterHeap, AfterAuto, InThread, InSchedule, AfterEnd, SoFar, nothing_read, Refused, Bad, may_follow, place_after, onto_last, with_statement, unless_above, limit_of_command, limit_passed, unless_passed, within_limits, judged_word, judged, Fault, fault_at, finished_at, read_lines, read_script}
 use Rattle.heap_terms.specs.Valid.{IsCommand, IsFixnum, IsInRange, IsValid, NamesYoungest, is_built, is_gc, name_of}
 use Rattle.script_text.proofs.Fitting.{EachSaid, row_said, turns_below}
 use Rattle.script_text.proofs.Sums.{length-onto_last, commands-onto_last, gcs-onto_last}
@@ -437,8 +437,8 @@ lines_valid : (s : SoFar) (line : ℕ) (ls : List (List ℕ)) (p : Program) → 
 unfolding read_lines
 lines_valid s line [] p g e = finished_valid s.place s.program p line g e
 lines_valid s line (l ∷ ls) p g e =
-    one_valid (judged s (fields_of l)) line (λ next. read_lines next (line + 1) ls) p
-    (λ next h more. lines_valid next (line + 1) ls p (judged_good s (fields_of l) next g h) more) e
+    one_valid (judged s (fields_in l)) line (λ next. read_lines next (line + 1) ls) p
+    (λ next h more. lines_valid next (line + 1) ls p (judged_good s (fields_in l) next g h) more) e
 
 -- a program that is read is valid
 pub read_valid : (bytes : List ℕ) (p : Program) → read_script bytes ≡ Ok p → IsValid p

@@ -5,7 +5,7 @@ use Rattle.heap_terms.specs.declared.faults.Why.TheVariants.{Fields}
 use Rattle.heap_terms.specs.declared.faults.LimitKind.TheVariants as limits
 use Rattle.heap_terms.specs.Fields.{◌>>=◌}
 use Rattle.heap_terms.specs.Grammar.{turns_of_all}
-use Rattle.heap_terms.specs.Reading.{SoFar, Refused, Bad, Over}
+use Rattle.heap_terms.specs.ScriptReading.{SoFar, Refused, Bad, Over}
 use Rattle.script_text.specs.declared.faults.LineFault.{LineFault}
 use Rattle.script_text.specs.declared.faults.LineFault.TheVariants as faults
 

@@ -2,7 +2,7 @@
 use Rattle.std.specs.Prelude.{◌≡◌, ℕ, suc, Bool, true, false, ◌&&◌, ◌||◌, ◌<◌, nat_lt, ◌-◌, length, take, drop, List, [], ◌∷◌, ◌==◌, if◌then◌else◌}
 use Rattle.std.specs.List.{list_all}
 use Rattle.std.specs.Str.Lines.{lines}
-use Rattle.heap_terms.specs.Fields.{is_blank, fields_of}
+use Rattle.heap_terms.specs.Fields.{is_blank, fields_in}
 
 abbrev pub first_or_empty : List (List ℕ) → List ℕ
 first_or_empty [] = []
@@ -13,7 +13,7 @@ all_but_first [] = []
 all_but_first (line ∷ more) = more
 
 unfoldable pub fields_left : List ℕ → List (List ℕ)
-fields_left bytes = fields_of (first_or_empty (lines bytes))
+fields_left bytes = fields_in (first_or_empty (lines bytes))
 
 unfoldable pub lines_after : List ℕ → List (List ℕ)
 lines_after bytes = all_but_first (lines bytes)

@@ -1,6 +1,6 @@
 -- The state of the reader, as the definition of reading has it, and what its methods answer.
 use Rattle.std.specs.Prelude.{◌≡◌, ◌≤◌, length, sum_by, count_by}
-use Rattle.heap_terms.specs.Reading.{SoFar}
+use Rattle.heap_terms.specs.ScriptReading.{SoFar}
 use Rattle.heap_terms.specs.Valid.{is_gc}
 use Rattle.script_text.specs.declared.reader.Reader.TheInside.{Inside}
 use Rattle.script_text.specs.Words.{place_of}

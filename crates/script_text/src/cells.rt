@@ -1,5 +1,5 @@
-//! Lisp cells: of any field, and in their usual spelling, with one space before them and a space or an
-//! LF after them, which is read without a search for the field's end.
+//! Lisp cells: of any field, and in their usual spelling, with one space before them and a space or
+//! an LF after them, which is read without a search for the field's end.
 
 ghost use Rattle.std.specs.Prelude.{◌≡◌, ℕ, ◌+◌, ◌-◌, ◌<◌, Some, IfSome, ok_or, take, drop};
 ghost use Rattle.heap_terms.specs.Fields.{cell_number, cell_of};

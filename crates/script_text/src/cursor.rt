@@ -46,6 +46,13 @@ impl<'a> Cursor<'a> {
         self.rest.is_empty()
     }
 
+    /// How many bytes are left.
+    pub(crate) fn len(&self) -> usize
+        ensures { result ≡ length self.now }
+    {
+        self.rest.len()
+    }
+
     /// The next field of the line.
     pub(crate) fn next_field(&mut self) -> Option<&'a [u8]>
         ensures { MatchOption result (NoneLeft self.old self.new) (λ field. Taken self.old field.now self.new) }

@@ -123,8 +123,8 @@ pub(crate) fn fixnum(field: &[u8]) -> Result<i64, Why>
     }
 }
 
-/// Where a number in its usual spelling may grow to another digit: below 10^17, so that no sum of its
-/// digits passes the largest fixnum.
+/// Where a number in its usual spelling may grow to another digit: below 10^17, so that no sum of
+/// its digits passes the largest fixnum.
 const MOST_TO_GROW: u64 = 100_000_000_000_000_000;
 
 /// A number before a space or an LF, and the bytes after it. One of 18 digits may be left out.

@@ -2,7 +2,7 @@
 
 ghost use Rattle.std.specs.Prelude.{◌≡◌, ◌<◌, ◌≤◌, ◌-◌, ◌^◌, ℕ, IsTrue, OnOk, OnErr, Ok, length, min, ok_or};
 ghost use Rattle.heap_terms.specs.Grammar.{Version, HeapOf, NewThread, Does, EndOfScript, schedule_of, statement_of};
-ghost use Rattle.heap_terms.specs.Reading.{within_limits, judged, judged_word, nothing_read, onto_last, finished, LineFault as MadeAt};
+ghost use Rattle.heap_terms.specs.ScriptReading.{within_limits, judged, judged_word, nothing_read, onto_last, finished, LineFault as MadeAt};
 ghost use Rattle.heap_terms.specs.declared.faults.Why.TheVariants.{Missing};
 ghost use Rattle.heap_terms.specs.Valid.{is_gc};
 ghost use Rattle.script_text.specs.Answers.{IsJudged};
@@ -30,6 +30,10 @@ const MOST_COMMANDS: u32 = 20_000;
 /// How many of them may be `gc`.
 const MOST_GCS: u32 = 64;
 
+/// How many bytes a short line of a command has. It is a guess: where lines are shorter, a thread's
+/// list of commands grows.
+const SHORT_LINE: usize = 8;
+
 /// What the lines so far say.
 #[derive(Drop)]
 pub(crate) struct Reader {
@@ -42,7 +46,7 @@ pub(crate) struct Reader {
 }
 
 impl Model for Reader {
-    ghost use Rattle.heap_terms.specs.Reading.{SoFar};
+    ghost use Rattle.heap_terms.specs.ScriptReading.{SoFar};
 
     ghost Value = { SoFar };
 
@@ -97,14 +101,16 @@ impl Reader {
         Ok(())
     }
 
-    /// A thread, with no command yet.
-    fn thread(&mut self, alloc: Global) -> Result<(), LineFault>
+    /// A thread, with no command yet, and room for the commands that so many bytes can be.
+    fn thread(&mut self, alloc: Global, bytes: usize) -> Result<(), LineFault>
         ensures { IsJudged result self.new (within_limits self.old (Ok NewThread)) }
     {
         if self.threads.len() >= MOST_THREADS {
             return Err(LineFault::Over(LimitKind::Threads));
         }
-        self.threads.push(Commands::new(alloc))?;
+        let most = (MOST_COMMANDS - self.commands) as usize;
+        let commands = Vec::with_capacity(alloc, most.min(bytes / SHORT_LINE))?;
+        self.threads.push(Commands::from_vec(commands))?;
         self.place = Place::Thread;
         Ok(())
     }
@@ -122,7 +128,8 @@ impl Reader {
         if collects && self.gcs >= MOST_GCS {
             return Err(LineFault::Over(LimitKind::Gcs));
         }
-        // Not reached, since a command stands behind a `thread` line: then there is no script to add it to.
+        // Not reached, since a command stands behind a `thread` line: then there is no script to
+        // add it to.
         if self.threads.is_empty() {
             self.place = Place::Thread;
             return Ok(());
@@ -174,7 +181,7 @@ impl Reader {
                 if !left.is_at_end() {
                     return Err(LineFault::Bad(Why::Fields));
                 }
-                self.thread(alloc)
+                self.thread(alloc, left.len())
             }
             Keyword::End => {
                 if !left.is_at_end() {
@@ -187,7 +194,7 @@ impl Reader {
     }
 
     /// A line with its word, wherever it stands.
-    #[tactic(auto, unfolding(heap_terms::specs::Reading::judged_word))]
+    #[tactic(auto, unfolding(heap_terms::specs::ScriptReading::judged_word))]
     fn placed(&mut self, alloc: Global, word: Keyword, left: &mut Cursor) -> Result<(), LineFault>
         ensures judged { IsJudged result self.new (judged_word self.old (text_of word) (fields_left left.old)) }
         ensures lines { OnOk result (lines_after left.new ≡ lines_after left.old) }
@@ -216,7 +223,7 @@ impl Reader {
     /// The same, whatever the line and its spelling.
     #[cold]
     #[inline(never)]
-    #[tactic(auto, unfolding(heap_terms::specs::Reading::judged, heap_terms::specs::Reading::judged_word))]
+    #[tactic(auto, unfolding(heap_terms::specs::ScriptReading::judged, heap_terms::specs::ScriptReading::judged_word))]
     fn any_line(&mut self, alloc: Global, left: &mut Cursor) -> Result<(), LineFault>
         ensures judged { IsJudged result self.new (judged self.old (fields_left left.old)) }
         ensures lines { OnOk result (lines_after left.new ≡ lines_after left.old) }

@@ -2,7 +2,7 @@
 //! read in its usual spelling, at the very front of the line and with one space after it.
 
 ghost use Rattle.std.specs.Prelude.{◌≡◌, ◌-◌, false, take, MatchOption, IfSome};
-ghost use Rattle.heap_terms.specs.Reading.{may_follow};
+ghost use Rattle.heap_terms.specs.ScriptReading.{may_follow};
 ghost use Rattle.heap_terms.specs.Valid.{is_built};
 ghost use Rattle.script_text.specs.Left.{IsSpelled, Taken};
 ghost use Rattle.script_text.specs.Words.{text_of, text_of_name, place_of};
@@ -58,8 +58,8 @@ fn plain_word<'a, const N: usize>(rest: &'a [u8], spelled: &[u8; N]) -> Option<&
     Some(after)
 }
 
-/// The name of a command with a space after it, and the bytes from that space on. No two names begin
-/// with one byte.
+/// The name of a command with a space after it, and the bytes from that space on. No two names
+/// begin with one byte.
 #[inline(always)]
 pub(crate) fn plain_name(rest: &[u8]) -> Option<(Name, &[u8])>
     ensures { IfSome result (λ f. Taken rest.now (text_of_name f.0) f.1.now) }

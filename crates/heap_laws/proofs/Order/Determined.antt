@@ -15,7 +15,7 @@ use Rattle.heap_terms.specs.declared.programs.Program.{Program}
 use Rattle.heap_terms.specs.Collections.{ArePasses, closed}
 use Rattle.heap_terms.specs.Heap.{NamedHeap, start}
 use Rattle.heap_terms.specs.Histories.{IsNext, IsAnswer, IsOpening, after, Lawful, LawfulFrom, command_at, wish_at, wished_size, next, thread_of}
-use Rattle.heap_terms.specs.Regions.{Wish, Nothing, Make, wish_of, pages_needed, IsRun, IsLowestRun, HasNoRun}
+use Rattle.heap_terms.specs.Regions.{Wish, Nothing, Make, wish_of, pages_needed, IsFreeRun, IsLowestRun, HasNoRun}
 use Rattle.heap_terms.specs.Passes.{order_of}
 use Rattle.heap_terms.specs.Valid.{IsValid}
 use Rattle.heap_terms.specs.WellFormed.{IsWellFormed}
@@ -50,7 +50,7 @@ opening_same a (Make kind n seed) ty ty' first first' k k' one two =
 pub opening_or_refusal : (a : NamedHeap) (w : Wish) (ty : PageType) (first k : ℕ) → IsOpening a w ty first k → HasNoRun a.pages (pages_needed (wished_size w)) → ⊥
 opening_or_refusal a Nothing ty first k opening none = opening
 opening_or_refusal a (Make kind n seed) ty first k opening none =
-    none first (subst (λ (x : ℕ). IsRun a.pages first x) opening.1 opening.2.run)
+    none first (subst (λ (x : ℕ). IsFreeRun a.pages first x) opening.1 opening.2.run)
 
 -- an answer is one
 pub answer_same : (a : NamedHeap) (t : ℕ) (c : Command) (x y : Answer) (n : Next) → IsAnswer a t c x n → IsAnswer a t c y n → x ≡ y

@@ -2,7 +2,7 @@
 use Rattle.std.proofs.Common.{◌≡◌, ◌≢◌, ℕ, zero, suc, ◌+◌, ◌<◌, ◌≤◌, List, length, Option, Some, None, Bool, true, false, ◌⊎◌, inl, inr, refl, sym, ◌∙◌, subst, ap, arith}
 use Rattle.std.proofs.lemmas.Bool.{cases_lt, cases_eq, cases_Bool, ne_eqb, false_from_ne_true, false≢true}
 use Rattle.std.proofs.lemmas.List.{get_or_past}
-use Rattle.std.specs.Prelude.{if◌then◌else◌, ◌==◌}
+use Rattle.std.specs.Prelude.{if◌then◌else◌}
 use Rattle.heap_terms.specs.declared.answers.Answer.{Answer}
 use Rattle.heap_terms.specs.declared.answers.Answer.TheVariants as answers
 use Rattle.heap_terms.specs.declared.commands.Command.{Command}
@@ -18,7 +18,7 @@ use Rattle.heap_terms.specs.Collections.{IsCollection}
 use Rattle.heap_terms.specs.Heap.{NamedHeap, Thread, thread_at, entry_at, ended_thread, fresh_thread}
 use Rattle.heap_terms.specs.Histories.{IsNext, IsAnswer, IsOpening, command_at, wish_at, thread_of, next, next_for, next_command, due}
 use Rattle.heap_terms.specs.Layout.{page_type_of, size_of}
-use Rattle.heap_terms.specs.Regions.{Wish, Nothing, Make, wish_of, has_room, pages_needed, is_free, IsRun, IsLowestRun, HasNoRun, place_for}
+use Rattle.heap_terms.specs.Regions.{Wish, Nothing, Make, wish_of, has_room, pages_needed, is_free, IsFreeRun, IsLowestRun, HasNoRun, place_for}
 use Rattle.heap_terms.specs.Outcomes.{outcome_of}
 use Rattle.heap_terms.specs.WellFormed.{IsWellFormed}
 use Rattle.pass_laws.proofs.Collecting.{collection_exists}
@@ -39,7 +39,7 @@ free_or_not pages first (suc k) = elim (free_or_not pages first k) [
   ]
 ]
 
-pub run_or_not : (pages : List Entry) (first k : ℕ) → IsRun pages first k ⊎ ¬ IsRun pages first k
+pub run_or_not : (pages : List Entry) (first k : ℕ) → IsFreeRun pages first k ⊎ ¬ IsFreeRun pages first k
 run_or_not pages first k = elim (cases_lt (length pages) (first + k)) [
   | inl past ↦ inr (λ run. let inside = run.inside in omega arith)
   | inr inside ↦ elim (free_or_not pages first k) [
@@ -49,14 +49,14 @@ run_or_not pages first k = elim (cases_lt (length pages) (first + k)) [
 ]
 
 -- the lowest run, or none below n
-pub lowest_below : (pages : List Entry) (k n : ℕ) → ((first : ℕ) × IsLowestRun pages first k) ⊎ ((lower : ℕ) → lower < n → ¬ IsRun pages lower k)
+pub lowest_below : (pages : List Entry) (k n : ℕ) → ((first : ℕ) × IsLowestRun pages first k) ⊎ ((lower : ℕ) → lower < n → ¬ IsFreeRun pages lower k)
 lowest_below pages k zero = inr (λ lower l run. absurd (omega arith))
 lowest_below pages k (suc n) = elim (lowest_below pages k n) [
   | inl found ↦ inl found
   | inr none ↦ elim (run_or_not pages n k) [
     | inl run ↦ inl (n, record { run = run; lowest = none })
     | inr here ↦ inr (λ lower l run. elim (cases_eq lower n) [
-      | inl same ↦ here (subst (λ (x : ℕ). IsRun pages x k) same run)
+      | inl same ↦ here (subst (λ (x : ℕ). IsFreeRun pages x k) same run)
       | inr other ↦ none lower (omega arith) run
     ])
   ]

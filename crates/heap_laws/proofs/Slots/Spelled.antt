@@ -1,8 +1,7 @@
 -- What a region builds is the words of the slots.
-use Rattle.std.proofs.Common.{◌≡◌, ℕ, zero, suc, ◌+◌, ◌-◌, ◌*◌, ◌<◌, List, [], ◌∷◌, ◌++◌, length, map, replicate, Option, Some, None, refl, sym, ◌∙◌, ap, subst, arith, get_or}
+use Rattle.std.proofs.Common.{◌≡◌, ℕ, zero, suc, ◌+◌, ◌-◌, ◌*◌, ◌<◌, List, [], ◌∷◌, ◌++◌, length, map, replicate, Option, Some, refl, sym, ◌∙◌, ap, arith, get_or}
 use Rattle.std.proofs.lemmas.List.{length-map, map-append, get_or-map}
 use Rattle.std.proofs.lemmas.Option.{slice_get_within, slice_get-get_or, get_or_from_slice_get}
-use Rattle.std.proofs.lemmas.Simd.{map-map}
 use Rattle.std.specs.Prelude.{pos, flat_map, slice_get, slice_index, IfSome}
 use Rattle.heap_terms.specs.declared.cells.Value.{Value}
 use Rattle.heap_terms.specs.declared.cells.Value.TheVariants.{Unbound}
@@ -12,7 +11,7 @@ use Rattle.heap_terms.specs.Layout.{fixnum_word, size_with_header, weakness_numb
 use Rattle.heap_terms.specs.Objects.{Object, Contents, ConsOf, VectorOf, InstanceOf, ClosureOf, WordsOf, WeakTo, TableOf}
 use Rattle.heap_terms.specs.Slots.{Slot, Raw, Val, Side, Kept, under_header, pair_slots, slots}
 use Rattle.heap_terms.specs.Stands.{StandsFor}
-use Rattle.heap_terms.specs.Words.{word_of, with_header, pair_words, spelling}
+use Rattle.heap_terms.specs.Spelling.{word_of, with_header, pair_words, spelling}
 use Rattle.heap_laws.specs.WordLaws.{word_of_slot, AreAt}
 use Rattle.heap_laws.proofs.Lists.Places.{IfSome-at, IfSome-from}
 
@@ -24,9 +23,11 @@ map-replicate f (suc n) x = ap (λ l. f x ∷ l) (map-replicate f n x)
 under : (objects : List (Option Object)) (kind : Kind) (payload : List Slot) →
     map (word_of_slot objects) (under_header kind payload) ≡ with_header kind (map (word_of_slot objects) payload)
 under objects kind payload =
-    rw (map-append (word_of_slot objects) payload (replicate (size_with_header (length payload) - (length payload + 1)) (Raw 0)),
-        map-replicate (word_of_slot objects) (size_with_header (length payload) - (length payload + 1)) (Raw 0),
-        length-map payload (word_of_slot objects)) refl
+    rw (
+      map-append (word_of_slot objects) payload (replicate (size_with_header (length payload) - (length payload + 1)) (Raw 0)),
+      map-replicate (word_of_slot objects) (size_with_header (length payload) - (length payload + 1)) (Raw 0),
+      length-map payload (word_of_slot objects),
+    ) refl
 
 values : (objects : List (Option Object)) (vs : List Value) → map (word_of_slot objects) (map Val vs) ≡ map (word_of objects) vs
 values objects [] = refl
@@ -45,8 +46,11 @@ sides objects (pair ∷ pairs) = ap (λ ws. word_of objects pair.0 ∷ word_of o
 paired : (objects : List (Option Object)) (b : ℕ) (pairs : List (Value × Value)) →
     map (word_of_slot objects) (pair_slots b pairs) ≡ pair_words objects b pairs
 paired objects b pairs =
-    rw (map-append (word_of_slot objects) (flat_map (λ pair. Side pair.0 ∷ Side pair.1 ∷ []) pairs) (replicate (2 * (b - length pairs)) (Side Unbound)),
-        map-replicate (word_of_slot objects) (2 * (b - length pairs)) (Side Unbound), sides objects pairs) refl
+    rw (
+      map-append (word_of_slot objects) (flat_map (λ pair. Side pair.0 ∷ Side pair.1 ∷ []) pairs) (replicate (2 * (b - length pairs)) (Side Unbound)),
+      map-replicate (word_of_slot objects) (2 * (b - length pairs)) (Side Unbound),
+      sides objects pairs,
+    ) refl
 
 pub slots-spelled : (objects : List (Option Object)) (contents : Contents) → map (word_of_slot objects) (slots contents) ≡ spelling objects contents
 slots-spelled objects (ConsOf a b) = refl
@@ -82,9 +86,10 @@ module _ (objects : List (Option Object)) (words : List ℕ) (from : ℕ) (ss : 
   pub slots_from_words : AreAt words from (map (word_of_slot objects) ss) →
       ((i : ℕ) → IfSome (slice_get ss i) (λ s. StandsFor objects s (slice_index words (from + i))))
       × ((i : ℕ) → slice_get ss i ≡ Some Kept → slice_index words (from + i) ≡ 0)
-  slots_from_words h =
-      ((λ i. IfSome-from (λ s. StandsFor objects s (slice_index words (from + i))) (slice_get ss i) (λ s e. stands s (slice_index words (from + i)) (at h i s e))),
-          (λ i e. at h i Kept e))
+  slots_from_words h = (
+    (λ i. IfSome-from (λ s. StandsFor objects s (slice_index words (from + i))) (slice_get ss i) (λ s e. stands s (slice_index words (from + i)) (at h i s e))),
+    (λ i e. at h i Kept e),
+  )
 
   told : (s : Slot) (word : ℕ) → StandsFor objects s word → (s ≡ Kept → word ≡ 0) → word ≡ word_of_slot objects s
   told (Raw w) word e k = e

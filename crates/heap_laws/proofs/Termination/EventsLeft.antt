@@ -3,7 +3,7 @@ use Rattle.std.proofs.Common.{◌≡◌, ◌≢◌, ℕ, ◌+◌, ◌-◌, ◌*�
 use Rattle.std.proofs.lemmas.Bool.{cases_Bool, cases_eq, eq-eqb, ne_eqb, le-leb, and_from, false≢true, true≢false}
 use Rattle.std.proofs.lemmas.List.Sums.{length-filter}
 use Rattle.std.specs.List.{range_with_len, sum_by, count_by, filter, cons_option}
-use Rattle.std.specs.Prelude.{slice_get, if◌then◌else◌, ◌==◌, ◌&&◌}
+use Rattle.std.specs.Prelude.{slice_get, if◌then◌else◌, ◌==◌}
 use Rattle.heap_terms.specs.declared.commands.Command.{Command}
 use Rattle.heap_terms.specs.declared.events.Event.{Event}
 use Rattle.heap_terms.specs.declared.events.Event.TheVariants.{Did, Opened, Collected, Ended}
@@ -22,7 +22,7 @@ use Rattle.heap_terms.specs.Histories.{IsNext, after, command_at, script_of, thr
 use Rattle.heap_terms.specs.Layout.{page_words, page_type_of, size_of}
 use Rattle.heap_laws.specs.Order.{command_in, is_end}
 use Rattle.heap_laws.specs.Remaining.{left, owes, collections_left, triggers_left, collection_weight, all_left, opens_next, events_at_most, most_events}
-use Rattle.heap_terms.specs.Regions.{Wish, is_small, pages_needed, has_room, page_has_room, entry_has_room, entry_is_run, run_has_room, same_type, opened, with_run, IsRun}
+use Rattle.heap_terms.specs.Regions.{Wish, is_small, pages_needed, has_room, page_has_room, entry_has_room, entry_is_run, run_has_room, same_type, opened, with_run, IsFreeRun}
 use Rattle.heap_terms.specs.Valid.{IsValid, is_gc}
 use Rattle.heap_terms.specs.WellFormed.{IsWellFormed}
 use Rattle.heap_laws.proofs.Events.Causes.{alive_thread, Opens, opens_from}
@@ -30,7 +30,8 @@ use Rattle.heap_laws.proofs.Ranges.ObjectCount.{event_thread, start_thread_is}
 use Rattle.heap_laws.proofs.Events.OwnThread.{moves, gcs_in, collections_in}
 use Rattle.heap_laws.proofs.Events.ScriptSteps.{script_step}
 use Rattle.heap_laws.proofs.WellFormed.RegionOpened.{run_entry, opens_run, thread_with_run}
-use Rattle.heap_laws.proofs.Events.OtherThreads.{next_same, is_collection, others_left}
+use Rattle.heap_laws.proofs.Events.OtherThreads.{next_same, others_left}
+use Rattle.heap_laws.specs.CommandLaws.{is_collection}
 use Rattle.heap_laws.proofs.WellFormed.Replayed.{after-well_formed}
 use Rattle.heap_laws.proofs.WellFormed.PagesStay.{small_needs, small_most, needs_two, needs_least}
 use Rattle.heap_laws.proofs.Lists.Sums.{sum_change, sum_le, sum_more, sum_weighted, sum_places, sum_double}
@@ -79,7 +80,7 @@ same_type-self types.Boxed = refl
 same_type-self types.Unboxed = refl
 
 -- a region that was opened for an object has room for it
-pub opened_room : (pages : List Entry) (th : Thread) (kind : Kind) (size first : ℕ) → IsRun pages first (pages_needed size) →
+pub opened_room : (pages : List Entry) (th : Thread) (kind : Kind) (size first : ℕ) → IsFreeRun pages first (pages_needed size) →
     (if is_small size
     then page_has_room (with_run pages first (pages_needed size) (page_type_of kind)) (open_page (thread_with_run th (page_type_of kind) first (pages_needed size)) (page_type_of kind)) size
     else run_has_room (with_run pages first (pages_needed size) (page_type_of kind)) (thread_with_run th (page_type_of kind) first (pages_needed size)).open_run (page_type_of kind) size) ≡ true

@@ -8,9 +8,9 @@ use Rattle.heap_terms.specs.declared.kinds.PageType.TheVariants as types
 use Rattle.heap_terms.specs.declared.pages.Entry.{Entry}
 use Rattle.heap_terms.specs.declared.pages.Entry.TheVariants.{Free, Used}
 use Rattle.heap_terms.specs.declared.programs.Program.{Program}
-use Rattle.heap_terms.specs.Heap.{NamedHeap, Thread, object_at, entry_at, thread_at, with_thread, open_page, with_open_page}
+use Rattle.heap_terms.specs.Heap.{NamedHeap, Thread, entry_at, thread_at, with_thread, open_page, with_open_page}
 use Rattle.heap_terms.specs.Objects.{Object}
-use Rattle.heap_terms.specs.Regions.{IsRun, is_free, with_run, opened}
+use Rattle.heap_terms.specs.Regions.{IsFreeRun, is_free, with_run, opened}
 use Rattle.heap_terms.specs.OnPages.{IsEntry, IsInRun}
 use Rattle.heap_terms.specs.Sound.{IsSound}
 use Rattle.heap_terms.specs.WellFormed.{IsWellFormed, IsThread, IsOpenPage, IsOpenRun, IsOpenRunPage}
@@ -59,7 +59,7 @@ pub free_is : (e : Entry) → is_free e ≡ true → e ≡ Free
 free_is Free h = refl
 free_is (Used ty g fill first n) h = cc
 
-pub run_cases : (pages : List Entry) (first k : ℕ) (ty : PageType) (i : ℕ) → IsRun pages first k →
+pub run_cases : (pages : List Entry) (first k : ℕ) (ty : PageType) (i : ℕ) → IsFreeRun pages first k →
     (entry_at (with_run pages first k ty) i ≡ entry_at pages i)
     ⊎ ((first ≤ i) × (i < first + k) × (entry_at (with_run pages first k ty) i ≡ Used ty 0 0 first k) × (entry_at pages i ≡ Free))
 run_cases pages first k ty i run = elim (cases_lt i first) [
@@ -70,7 +70,7 @@ run_cases pages first k ty i run = elim (cases_lt i first) [
   ]
 ]
 
-pub run_stays : (pages : List Entry) (first k : ℕ) (ty : PageType) → IsRun pages first k → PagesStay pages (with_run pages first k ty)
+pub run_stays : (pages : List Entry) (first k : ℕ) (ty : PageType) → IsFreeRun pages first k → PagesStay pages (with_run pages first k ty)
 run_stays pages first k ty run = record {
   lengths = run_length pages first k ty run.inside;
   each = λ i. elim (run_cases pages first k ty i run) [
@@ -115,7 +115,7 @@ run_in_run pages first k ty page inside low high = (
 )
 
 -- the pages of a run are taken
-pub run-kept : (p : Program) (a : NamedHeap) (ty : PageType) (first k : ℕ) → IsWellFormed p a → IsRun a.pages first k →
+pub run-kept : (p : Program) (a : NamedHeap) (ty : PageType) (first k : ℕ) → IsWellFormed p a → IsFreeRun a.pages first k →
     IsWellFormed p (record a { pages = with_run a.pages first k ty })
 run-kept p a ty first k w run =
     let new = with_run a.pages first k ty in
@@ -297,7 +297,7 @@ open_run_taken pages first h free =
     rw free at page'
 
 -- a thread opens a run of one page or more
-pub opened-kept : (p : Program) (a : NamedHeap) (t : ℕ) (ty : PageType) (first k : ℕ) → IsWellFormed p a → IsRun a.pages first k → 1 ≤ k →
+pub opened-kept : (p : Program) (a : NamedHeap) (t : ℕ) (ty : PageType) (first k : ℕ) → IsWellFormed p a → IsFreeRun a.pages first k → 1 ≤ k →
     IsWellFormed p (opened a t ty first k)
 unfolding opened
 opened-kept p a t ty first k w run some =

@@ -1,16 +1,13 @@
 -- The commands on a thread's pins: `pin` and `unpin`. What they stand for is SBCL's with-pinned-objects; that a
 -- thread has a list of at most 32 words is this project's own. Nothing is left free.
 use Rattle.std.specs.Prelude.{ℕ, ◌-◌, ◌==◌, List, [], ◌∷◌, ◌++◌, length, take, if◌then◌else◌, nat_lt}
+use Rattle.heap_terms.specs.declared.limits.TheConstants.{MOST_PINS}
 use Rattle.heap_terms.specs.declared.answers.Refusal.TheVariants as refusals
 use Rattle.heap_terms.specs.declared.cells.Cell.{Cell}
 use Rattle.heap_terms.specs.Cells.{cell_value}
 use Rattle.heap_terms.specs.Heap.{NamedHeap, thread_at, with_thread}
 use Rattle.heap_terms.specs.Outcome.{Outcome, done, refused}
-use Rattle.heap_terms.specs.Words.{word_of}
-
--- a thread has at most so many pins
-abbrev pub most_pins : ℕ
-most_pins = 32
+use Rattle.heap_terms.specs.Spelling.{word_of}
 
 -- the heap with other pins of thread t
 abbrev pub with_pins : NamedHeap → ℕ → List ℕ → NamedHeap
@@ -20,7 +17,7 @@ with_pins a t pins = with_thread a t (record (thread_at a t) { pins = pins })
 abbrev pub pinning : NamedHeap → ℕ → Cell → Outcome
 pinning a t c =
     let pins = (thread_at a t).pins in
-    if nat_lt (length pins) most_pins then done (with_pins a t (pins ++ word_of a.objects (cell_value a t c) ∷ [])) else refused refusals.PinsFull a
+    if nat_lt (length pins) MOST_PINS then done (with_pins a t (pins ++ word_of a.objects (cell_value a t c) ∷ [])) else refused refusals.PinsFull a
 
 -- the last one is taken off
 abbrev pub unpinning : NamedHeap → ℕ → Outcome

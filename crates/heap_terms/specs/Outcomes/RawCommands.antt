@@ -11,7 +11,7 @@ use Rattle.heap_terms.specs.Objects.{Object}
 use Rattle.heap_terms.specs.Outcome.{Outcome, done, answering, needing, indexing}
 use Rattle.heap_terms.specs.RawCells.{raw_value, with_raw, word_plus}
 use Rattle.heap_terms.specs.Referents.{raws_at, with_raws, changed_at}
-use Rattle.heap_terms.specs.Words.{word_of}
+use Rattle.heap_terms.specs.Spelling.{word_of}
 
 -- r becomes a word, which is the answer too
 abbrev pub taking : NamedHeap → ℕ → Raw → ℕ → Outcome

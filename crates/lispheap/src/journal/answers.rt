@@ -4,9 +4,8 @@ ghost use Rattle.std.specs.Prelude.{◌≡◌, ◌+◌, ◌≤◌, ◌++◌, OnO
 ghost use Rattle.heap_terms.specs.Text.{line, number_field, field, answer_text, refusal_text, name_text, index_text, value_text, word_text, page_text};
 
 use super::buffer::Text;
-use super::fields::{
-    push, push_index_field, push_number, push_number_field, push_numbers, push_value, push_word,
-};
+use super::fields::{push, push_index_field, push_numbers, push_value, push_word};
+use super::numbers::{push_number, push_number_field};
 use super::pages::push_page;
 use super::room::{ANSWER_LINE, ARROW, NUMBER_FIELD, OBJECT, SIZES, VALUE_FIELD, WORD};
 use heap_terms::{Answer, PageView, Refusal, Value};
@@ -40,7 +39,7 @@ pub(super) fn push_answer_line(out: &mut Text, answer: &Answer) -> Result<(), Al
     Ok(())
 }
 
-// Appends a value.
+/// Appends a value.
 fn push_value_line(out: &mut Text, v: Value)
     requires { ARROW + VALUE_FIELD ≤ out.old.room }
     ensures { out.new.text ≡ out.old.text ++ line (codes " -> " ++ value_text v) }
@@ -50,7 +49,7 @@ fn push_value_line(out: &mut Text, v: Value)
     push(out, b"\n");
 }
 
-// Appends a name and an index.
+/// Appends a name and an index.
 fn push_placed_line(out: &mut Text, name: u32, index: u32)
     requires { ARROW + OBJECT ≤ out.old.room }
     ensures { out.new.text ≡ out.old.text ++ line (codes " -> " ++ (name_text name ++ field (index_text index))) }
@@ -61,7 +60,7 @@ fn push_placed_line(out: &mut Text, name: u32, index: u32)
     push(out, b"\n");
 }
 
-// Appends a raw word.
+/// Appends a raw word.
 fn push_word_line(out: &mut Text, w: u64)
     requires { ARROW + WORD + 1 ≤ out.old.room }
     ensures { out.new.text ≡ out.old.text ++ line (codes " -> " ++ word_text w) }
@@ -71,7 +70,7 @@ fn push_word_line(out: &mut Text, w: u64)
     push(out, b"\n");
 }
 
-// Appends what a weak pointer refers to.
+/// Appends what a weak pointer refers to.
 fn push_live_line(out: &mut Text, v: Value)
     requires { ARROW + 4 + VALUE_FIELD + 1 ≤ out.old.room }
     ensures { out.new.text ≡ out.old.text ++ line (codes " -> " ++ (codes "live" ++ field (value_text v))) }
@@ -81,7 +80,7 @@ fn push_live_line(out: &mut Text, v: Value)
     push(out, b"\n");
 }
 
-// Appends how many there are.
+/// Appends how many there are.
 fn push_count_line(out: &mut Text, n: u64)
     requires { ARROW + NUMBER_FIELD ≤ out.old.room }
     ensures { out.new.text ≡ out.old.text ++ line (codes " ->" ++ number_field n) }
@@ -91,7 +90,7 @@ fn push_count_line(out: &mut Text, n: u64)
     push(out, b"\n");
 }
 
-// Appends the numbers of the finalizers that ran.
+/// Appends the numbers of the finalizers that ran.
 fn push_ran_line(out: &mut Text, ids: &[u32]) -> Result<(), AllocError>
     requires { ARROW + 3 ≤ out.old.room }
     ensures { OnOk result (out.new.text ≡ out.old.text ++ line (codes " -> " ++ (codes "ran" ++ flat_map number_field ids.now))) }
@@ -103,7 +102,7 @@ fn push_ran_line(out: &mut Text, ids: &[u32]) -> Result<(), AllocError>
     Ok(())
 }
 
-// Appends what stands on a page.
+/// Appends what stands on a page.
 fn push_page_line(out: &mut Text, view: &PageView) -> Result<(), AllocError>
     requires { ARROW ≤ out.old.room }
     ensures { OnOk result (out.new.text ≡ out.old.text ++ line (codes " -> " ++ page_text view.now)) }
@@ -115,7 +114,7 @@ fn push_page_line(out: &mut Text, view: &PageView) -> Result<(), AllocError>
     Ok(())
 }
 
-// Appends why a command was refused.
+/// Appends why a command was refused.
 fn push_refusal_line(out: &mut Text, refusal: Refusal)
     requires { ARROW + 12 ≤ out.old.room }
     ensures { out.new.text ≡ out.old.text ++ line (codes " -> " ++ refusal_text refusal) }
@@ -130,7 +129,7 @@ fn push_refusal_line(out: &mut Text, refusal: Refusal)
     }
 }
 
-// Appends the numbers of a generation.
+/// Appends the numbers of a generation.
 fn push_stat_line(out: &mut Text, allocated: u64, cum: u64, num: u32)
     requires { ANSWER_LINE ≤ out.old.room }
     ensures { out.new.text ≡ out.old.text ++ line (codes " -> " ++ (codes "allocated" ++ number_field allocated
@@ -143,7 +142,7 @@ fn push_stat_line(out: &mut Text, allocated: u64, cum: u64, num: u32)
     push(out, b"\n");
 }
 
-// Appends the first two numbers of a generation.
+/// Appends the first two numbers of a generation.
 fn push_sizes(out: &mut Text, allocated: u64, cum: u64)
     requires { SIZES ≤ out.old.room }
     ensures text { out.new.text ≡ out.old.text

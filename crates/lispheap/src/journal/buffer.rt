@@ -1,5 +1,5 @@
-//! The buffer to which the journal is appended. A line reserves its room at its start; what is appended
-//! to it then takes no memory and makes no test.
+//! The buffer to which the journal is appended. A line reserves its room at its start; what is
+//! appended to it then takes no memory and makes no test.
 
 ghost use Rattle.std.specs.Prelude.{◌≡◌, ◌+◌, ◌≤◌, [], ◌++◌, length, OnOk, IfOk};
 

@@ -5,13 +5,13 @@ ghost use Rattle.std.specs.Fmt.{signed_decimal};
 ghost use Rattle.heap_terms.specs.Text.{cell_field, raw_field, number_field, field, word_text, weakness_text, command_text};
 
 use super::buffer::Text;
-use super::fields::{
-    push, push_cell, push_number_field, push_raw, push_signed_field, push_word_field,
-};
+use super::fields::{push, push_cell, push_raw, push_word_field};
+use super::numbers::{push_number_field, push_signed_field};
 use super::room::{CELL_FIELD, COMMAND, NUMBER_FIELD, WEAKNESS_FIELD, WORD_FIELD};
 use heap_terms::{Cell, Command, Raw, Weakness};
 
 /// Appends a command as a field.
+#[inline(always)]
 pub(super) fn push_command(out: &mut Text, command: &Command)
     requires { COMMAND ≤ out.old.room }
     ensures text { out.new.text ≡ out.old.text ++ field (command_text command.now) }

@@ -5,11 +5,11 @@ ghost use Rattle.std.specs.Fmt.{signed_decimal};
 ghost use Rattle.heap_terms.specs.Text.{cell_text, cell_field, raw_field, number_field, field, hex_digit, hex_digits, word_text, name_text, index_text, value_text};
 
 use super::buffer::Text;
+use super::numbers::{push_number, push_number_field, push_signed_field, push_small};
 use super::room::{
     CELL_FIELD, INDEX, INDEX_FIELD, NAME_FIELD, NUMBER, NUMBER_FIELD, VALUE_FIELD, WORD, WORD_FIELD,
 };
 use heap_terms::{Cell, Raw, Value};
-use itoa::Buffer;
 use std::alloc::AllocError;
 
 /// Appends a few bytes for which there is room.
@@ -22,164 +22,7 @@ pub(super) fn push<const N: usize>(out: &mut Text, bytes: &[u8; N])
     out.push(bytes);
 }
 
-// The glyph of a digit.
-#[inline(always)]
-fn glyph(digit: u32) -> u8
-    requires { digit < 10 }
-    ensures { result ≡ 48 + digit }
-{
-    b'0' + digit as u8
-}
-
-// Appends two digits.
-#[inline(always)]
-#[tactic(auto, using(crate::proofs::Decimals::decimal_two))]
-fn push_two_digits(out: &mut Text, n: u32)
-    requires least { 10 ≤ n }
-    requires most { n < 100 }
-    requires room { 2 ≤ out.old.room }
-    ensures text { out.new.text ≡ out.old.text ++ decimal n }
-    ensures room { out.old.room ≤ out.new.room + 2 }
-{
-    push(out, &[glyph(n / 10), glyph(n % 10)]);
-}
-
-// Appends three digits.
-#[inline(always)]
-#[tactic(auto, using(crate::proofs::Decimals::decimal_three))]
-fn push_three_digits(out: &mut Text, n: u32)
-    requires least { 100 ≤ n }
-    requires most { n < 1000 }
-    requires room { 3 ≤ out.old.room }
-    ensures text { out.new.text ≡ out.old.text ++ decimal n }
-    ensures room { out.old.room ≤ out.new.room + 3 }
-{
-    let tens = n / 10;
-    push(out, &[glyph(tens / 10), glyph(tens % 10), glyph(n % 10)]);
-}
-
-// Appends four digits.
-#[inline(always)]
-#[tactic(auto, using(crate::proofs::Decimals::decimal_four))]
-fn push_four_digits(out: &mut Text, n: u32)
-    requires least { 1000 ≤ n }
-    requires most { n < 10000 }
-    requires room { 4 ≤ out.old.room }
-    ensures text { out.new.text ≡ out.old.text ++ decimal n }
-    ensures room { out.old.room ≤ out.new.room + 4 }
-{
-    let tens = n / 10;
-    let hundreds = tens / 10;
-    push(
-        out,
-        &[
-            glyph(hundreds / 10),
-            glyph(hundreds % 10),
-            glyph(tens % 10),
-            glyph(n % 10),
-        ],
-    );
-}
-
-// Appends five digits.
-#[inline(always)]
-#[tactic(auto, using(crate::proofs::Decimals::decimal_five))]
-fn push_five_digits(out: &mut Text, n: u32)
-    requires least { 10000 ≤ n }
-    requires most { n < 100000 }
-    requires room { 5 ≤ out.old.room }
-    ensures text { out.new.text ≡ out.old.text ++ decimal n }
-    ensures room { out.old.room ≤ out.new.room + 5 }
-{
-    let tens = n / 10;
-    let hundreds = tens / 10;
-    let thousands = hundreds / 10;
-    push(
-        out,
-        &[
-            glyph(thousands / 10),
-            glyph(thousands % 10),
-            glyph(hundreds % 10),
-            glyph(tens % 10),
-            glyph(n % 10),
-        ],
-    );
-}
-
-// Appends a number of any length.
-#[inline(never)]
-fn push_long(out: &mut Text, n: u64)
-    requires { NUMBER ≤ out.old.room }
-    ensures text { out.new.text ≡ out.old.text ++ decimal n }
-    ensures room { out.old.room ≤ out.new.room + NUMBER }
-{
-    let mut buffer = Buffer::new();
-    out.push_slice(buffer.format(n).as_bytes());
-}
-
-/// Appends a number in decimal digits.
-#[tactic(auto, using(std::proofs::lemmas::Fmt::decimal_digit))]
-pub(super) fn push_number(out: &mut Text, n: u64)
-    requires { NUMBER ≤ out.old.room }
-    ensures text { out.new.text ≡ out.old.text ++ decimal n }
-    ensures room { out.old.room ≤ out.new.room + NUMBER }
-{
-    if n < 10 {
-        push(out, &[glyph(n as u32)]);
-    } else if n < 100 {
-        push_two_digits(out, n as u32);
-    } else if n < 1000 {
-        push_three_digits(out, n as u32);
-    } else if n < 10_000 {
-        push_four_digits(out, n as u32);
-    } else if n < 100_000 {
-        push_five_digits(out, n as u32);
-    } else {
-        push_long(out, n);
-    }
-}
-
-/// Appends a number as a field.
-#[inline]
-#[tactic(auto, using(std::proofs::lemmas::Fmt::decimal_digit))]
-pub(super) fn push_number_field(out: &mut Text, n: u64)
-    requires { NUMBER_FIELD ≤ out.old.room }
-    ensures text { out.new.text ≡ out.old.text ++ number_field n }
-    ensures room { out.old.room ≤ out.new.room + NUMBER_FIELD }
-{
-    if n < 10 {
-        push(out, &[b' ', glyph(n as u32)]);
-    } else {
-        push(out, b" ");
-        push_number(out, n);
-    }
-}
-
-/// Appends a signed number.
-pub(super) fn push_signed(out: &mut Text, n: i64)
-    requires { NUMBER ≤ out.old.room }
-    ensures text { out.new.text ≡ out.old.text ++ signed_decimal n }
-    ensures room { out.old.room ≤ out.new.room + NUMBER }
-{
-    if 0 <= n {
-        push_number(out, n as u64);
-    } else {
-        let mut buffer = Buffer::new();
-        out.push_slice(buffer.format(n).as_bytes());
-    }
-}
-
-/// Appends a signed number as a field.
-pub(super) fn push_signed_field(out: &mut Text, n: i64)
-    requires { NUMBER_FIELD ≤ out.old.room }
-    ensures text { out.new.text ≡ out.old.text ++ field (signed_decimal n) }
-    ensures room { out.old.room ≤ out.new.room + NUMBER_FIELD }
-{
-    push(out, b" ");
-    push_signed(out, n);
-}
-
-// The letter and the number of a cell.
+/// The letter and the number of a cell.
 #[inline(always)]
 fn parts_of(c: Cell) -> (u8, u8)
     ensures { cell_text c ≡ result.0 ∷ decimal result.1 }
@@ -191,7 +34,7 @@ fn parts_of(c: Cell) -> (u8, u8)
     }
 }
 
-// Appends a field that is a letter and a number.
+/// Appends a field that is a letter and a number.
 #[inline(always)]
 #[tactic(auto, using(std::proofs::lemmas::Fmt::decimal_digit, crate::proofs::Decimals::decimal_two))]
 fn push_lettered(out: &mut Text, letter: u8, i: u8)
@@ -201,11 +44,11 @@ fn push_lettered(out: &mut Text, letter: u8, i: u8)
 {
     if i < 10 {
         push(out, &[b' ', letter, b'0' + i]);
-    } else if i < 100 {
-        push(out, &[b' ', letter, b'0' + i / 10, b'0' + i % 10]);
+    } else if i < 20 {
+        push(out, &[b' ', letter, b'1', b'0' - 10 + i]);
     } else {
         push(out, &[b' ', letter]);
-        push_three_digits(out, i as u32);
+        push_small(out, i);
     }
 }
 
@@ -229,7 +72,7 @@ pub(super) fn push_raw(out: &mut Text, r: Raw)
     push_lettered(out, b'r', r.0);
 }
 
-// A hexadecimal digit.
+/// A hexadecimal digit.
 #[inline(always)]
 fn digit(d: u8) -> u8
     requires { d ≤ 15 }
@@ -249,7 +92,7 @@ pub(super) fn push_word(out: &mut Text, w: u64)
     push(out, &digits);
 }
 
-// The 16 hexadecimal digits of a word.
+/// The 16 hexadecimal digits of a word.
 fn digits_of(w: u64) -> [u8; 16]
     ensures { result ≡ hex_digits 16 w }
 {

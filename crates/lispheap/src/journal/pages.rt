@@ -5,7 +5,8 @@ ghost use Rattle.heap_terms.specs.Text.{number_field, field, type_text, item_tex
 ghost use Rattle.heap_terms.specs.declared.answers.Item.{Item as PageItem};
 
 use super::buffer::Text;
-use super::fields::{push, push_index, push_name_field, push_number, push_number_field};
+use super::fields::{push, push_index, push_name_field};
+use super::numbers::{push_number, push_number_field};
 use super::room::{GENERATION, ITEM, PAGE, TYPE};
 use heap_terms::{Item, PageType, PageView};
 use std::alloc::AllocError;
@@ -58,7 +59,7 @@ pub(super) fn push_type(out: &mut Text, ty: PageType)
     }
 }
 
-// Appends the type and the generation of a page.
+/// Appends the type and the generation of a page.
 fn push_generation(out: &mut Text, ty: PageType, generation: u8)
     requires { GENERATION ≤ out.old.room }
     ensures text { out.new.text ≡ out.old.text ++ (type_text ty ++ field (codes "g" ++ decimal generation)) }
@@ -69,7 +70,7 @@ fn push_generation(out: &mut Text, ty: PageType, generation: u8)
     push_number(out, generation as u64);
 }
 
-// Appends the items of a page. Their room is reserved one by one.
+/// Appends the items of a page. Their room is reserved one by one.
 fn push_items(out: &mut Text, items: &[Item]) -> Result<(), AllocError>
     ensures { OnOk result (out.new.text
         ≡ out.old.text ++ flat_map (λ (item : PageItem). field (item_text item.name item.index item.count)) items.now) }
@@ -81,7 +82,7 @@ fn push_items(out: &mut Text, items: &[Item]) -> Result<(), AllocError>
     Ok(())
 }
 
-// Appends an item of a page.
+/// Appends an item of a page.
 fn push_item(out: &mut Text, item: &Item)
     requires { ITEM ≤ out.old.room }
     ensures { out.new.text ≡ out.old.text ++ field (item_text item.now.name item.now.index item.now.count) }

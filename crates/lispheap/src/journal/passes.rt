@@ -7,7 +7,8 @@ ghost use Rattle.heap_terms.specs.declared.events.PinAt.{PinAt as PinRecord};
 ghost use Rattle.heap_terms.specs.declared.events.Placing.{Placing as MoveRecord};
 
 use super::buffer::Text;
-use super::fields::{push, push_index_field, push_name_field, push_number_field, push_value};
+use super::fields::{push, push_index_field, push_name_field, push_value};
+use super::numbers::push_number_field;
 use super::room::{BREAK_LINE, CULL_LINE, MOVE_LINE, NUMBER_FIELD, OBJECT, PIN_LINE};
 use heap_terms::{Cull, PassRecord, PinAt, Placing};
 use std::alloc::AllocError;
@@ -22,7 +23,7 @@ pub(super) fn push_passes(out: &mut Text, passes: &[PassRecord]) -> Result<(), A
     Ok(())
 }
 
-// Appends the lines of a pass.
+/// Appends the lines of a pass.
 fn push_pass(out: &mut Text, pass: &PassRecord) -> Result<(), AllocError>
     ensures { OnOk result (out.new.text ≡ out.old.text ++ pass_text pass.now) }
 {
@@ -36,7 +37,7 @@ fn push_pass(out: &mut Text, pass: &PassRecord) -> Result<(), AllocError>
     push_two(out, b"swept", pass.dead, pass.kept)
 }
 
-// Appends a line of a word and two numbers.
+/// Appends a line of a word and two numbers.
 fn push_two(out: &mut Text, word: &[u8], a: u32, b: u32) -> Result<(), AllocError>
     ensures { OnOk result (out.new.text ≡ out.old.text ++ line (word.now ++ number_field a ++ number_field b)) }
 {
@@ -48,7 +49,7 @@ fn push_two(out: &mut Text, word: &[u8], a: u32, b: u32) -> Result<(), AllocErro
     Ok(())
 }
 
-// Appends a line of a word and a number for each number.
+/// Appends a line of a word and a number for each number.
 fn push_each(out: &mut Text, word: &[u8], numbers: &[u32]) -> Result<(), AllocError>
     ensures { OnOk result (out.new.text
         ≡ out.old.text ++ flat_map (λ (n : ℕ). line (word.now ++ number_field n)) numbers.now) }
@@ -59,7 +60,7 @@ fn push_each(out: &mut Text, word: &[u8], numbers: &[u32]) -> Result<(), AllocEr
     Ok(())
 }
 
-// Appends a line of a word and a number.
+/// Appends a line of a word and a number.
 fn push_one(out: &mut Text, word: &[u8], n: u32) -> Result<(), AllocError>
     ensures { OnOk result (out.new.text ≡ out.old.text ++ line (word.now ++ number_field n)) }
 {
@@ -70,7 +71,7 @@ fn push_one(out: &mut Text, word: &[u8], n: u32) -> Result<(), AllocError>
     Ok(())
 }
 
-// Appends the lines of the moves and the stays.
+/// Appends the lines of the moves and the stays.
 fn push_moves(out: &mut Text, moves: &[Placing]) -> Result<(), AllocError>
     ensures { OnOk result (out.new.text
         ≡ out.old.text ++ flat_map (λ (m : MoveRecord). line (placing_text m.name m.old m.new)) moves.now) }
@@ -82,7 +83,7 @@ fn push_moves(out: &mut Text, moves: &[Placing]) -> Result<(), AllocError>
     Ok(())
 }
 
-// Appends the line of a move or a stay.
+/// Appends the line of a move or a stay.
 fn push_move(out: &mut Text, m: &Placing)
     requires { MOVE_LINE ≤ out.old.room }
     ensures { out.new.text ≡ out.old.text ++ line (placing_text m.now.name m.now.old m.now.new) }
@@ -102,7 +103,7 @@ fn push_move(out: &mut Text, m: &Placing)
     }
 }
 
-// Appends a name and an index, each as a field.
+/// Appends a name and an index, each as a field.
 fn push_object(out: &mut Text, name: u32, index: u32)
     requires { OBJECT ≤ out.old.room }
     ensures text { out.new.text ≡ out.old.text ++ (field (name_text name) ++ field (index_text index)) }
@@ -112,7 +113,7 @@ fn push_object(out: &mut Text, name: u32, index: u32)
     push_index_field(out, index);
 }
 
-// Appends the lines of the pinned objects.
+/// Appends the lines of the pinned objects.
 fn push_pins(out: &mut Text, pins: &[PinAt]) -> Result<(), AllocError>
     ensures { OnOk result (out.new.text ≡ out.old.text
         ++ flat_map (λ (q : PinRecord). line (codes "pin" ++ field (name_text q.name) ++ field (index_text q.index))) pins.now) }
@@ -124,7 +125,7 @@ fn push_pins(out: &mut Text, pins: &[PinAt]) -> Result<(), AllocError>
     Ok(())
 }
 
-// Appends the line of a pinned object.
+/// Appends the line of a pinned object.
 fn push_pin(out: &mut Text, name: u32, index: u32)
     requires { PIN_LINE ≤ out.old.room }
     ensures { out.new.text ≡ out.old.text ++ line (codes "pin" ++ field (name_text name) ++ field (index_text index)) }
@@ -134,7 +135,7 @@ fn push_pin(out: &mut Text, name: u32, index: u32)
     push(out, b"\n");
 }
 
-// Appends the lines of the culled pairs.
+/// Appends the lines of the culled pairs.
 fn push_culls(out: &mut Text, culls: &[Cull]) -> Result<(), AllocError>
     ensures { OnOk result (out.new.text ≡ out.old.text ++ flat_map (λ (k : CullRecord).
         line (codes "cull" ++ field (name_text k.table) ++ field (value_text k.key) ++ field (value_text k.value))) culls.now) }
@@ -146,7 +147,7 @@ fn push_culls(out: &mut Text, culls: &[Cull]) -> Result<(), AllocError>
     Ok(())
 }
 
-// Appends the line of a culled pair.
+/// Appends the line of a culled pair.
 fn push_cull(out: &mut Text, k: &Cull)
     requires { CULL_LINE ≤ out.old.room }
     ensures { out.new.text ≡ out.old.text
@@ -159,7 +160,7 @@ fn push_cull(out: &mut Text, k: &Cull)
     push(out, b"\n");
 }
 
-// Appends the lines of the broken weak pointers.
+/// Appends the lines of the broken weak pointers.
 fn push_breaks(out: &mut Text, breaks: &[u32]) -> Result<(), AllocError>
     ensures { OnOk result (out.new.text
         ≡ out.old.text ++ flat_map (λ name. line (codes "break" ++ field (name_text name))) breaks.now) }
@@ -171,7 +172,7 @@ fn push_breaks(out: &mut Text, breaks: &[u32]) -> Result<(), AllocError>
     Ok(())
 }
 
-// Appends the line of a broken weak pointer.
+/// Appends the line of a broken weak pointer.
 fn push_break(out: &mut Text, name: u32)
     requires { BREAK_LINE ≤ out.old.room }
     ensures { out.new.text ≡ out.old.text ++ line (codes "break" ++ field (name_text name)) }

@@ -6,8 +6,11 @@ pub(super) const NUMBER: usize = 20;
 /// A number as a field.
 pub(super) const NUMBER_FIELD: usize = 1 + NUMBER;
 
+/// A number of 8 bits.
+pub(super) const SMALL_NUMBER: usize = 3;
+
 /// A cell as a field: its letter and a number of 8 bits.
-pub(super) const CELL_FIELD: usize = 1 + 1 + 3;
+pub(super) const CELL_FIELD: usize = 1 + 1 + SMALL_NUMBER;
 
 /// A raw word: `0x` and 16 digits.
 pub(super) const WORD: usize = 2 + 16;
@@ -54,8 +57,8 @@ pub(super) const ARROW: usize = 4;
 /// `allocated` and ` cum` with their numbers.
 pub(super) const SIZES: usize = 9 + 4 + 2 * NUMBER_FIELD;
 
-/// An answer with its arrow and the end of its line, the longest of which has three numbers, the last
-/// behind ` num`. Answers of no bounded length reserve their own room.
+/// An answer with its arrow and the end of its line, the longest of which has three numbers, the
+/// last behind ` num`. Answers of no bounded length reserve their own room.
 pub(super) const ANSWER_LINE: usize = ARROW + SIZES + 4 + NUMBER_FIELD + 1;
 
 /// The line of a command with its answer: the longest line of an event.

@@ -5,9 +5,11 @@ use Rattle.heap_laws.proofs.Slots.Spelled.{slots-spelled, slots_from_words, word
 use Rattle.heap_laws.proofs.words.slots_are_spelled.Goals as goal
 
 pub returns : goal.returns
-returns c =
-    (slots-spelled,
-        λ objects words from contents.
-        ((λ h. slots_from_words objects words from (slots contents) (subst (λ (ws : List ℕ). AreAt words from ws) (sym (slots-spelled objects contents)) h)),
-            (λ both. subst (λ (ws : List ℕ). AreAt words from ws) (slots-spelled objects contents)
-            (words_from_slots objects words from (slots contents) both.0 both.1))))
+returns c = (
+  slots-spelled,
+  λ objects words from contents. (
+    (λ h. slots_from_words objects words from (slots contents) (subst (λ (ws : List ℕ). AreAt words from ws) (sym (slots-spelled objects contents)) h)),
+    (λ both. subst (λ (ws : List ℕ). AreAt words from ws) (slots-spelled objects contents)
+        (words_from_slots objects words from (slots contents) both.0 both.1)),
+  ),
+)

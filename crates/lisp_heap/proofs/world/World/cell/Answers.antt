@@ -1,7 +1,7 @@
 -- The word in a cell is that of its value.
 use Rattle.std.proofs.Common.{◌≡◌, subst, ◌∙◌}
 use Rattle.heap_terms.specs.Cells.{cell_value}
-use Rattle.heap_terms.specs.Words.{word_of}
+use Rattle.heap_terms.specs.Spelling.{word_of}
 use Rattle.lisp_heap.specs.View.{View, heap_of}
 use Rattle.lisp_heap.proofs.Soundness.{cells_room}
 use Rattle.lisp_heap.proofs.WordReading.{thread_in, cell_is}

@@ -3,7 +3,7 @@ use Rattle.std.proofs.Common.{◌≡◌, ℕ, subst, sym, refl, Option, None}
 use Rattle.heap_terms.specs.declared.cells.Value.{Value}
 use Rattle.heap_terms.specs.Simple.{fields_at}
 use Rattle.heap_terms.specs.WellFormed.{IsLiving}
-use Rattle.heap_terms.specs.Words.{word_of}
+use Rattle.heap_terms.specs.Spelling.{word_of}
 use Rattle.lisp_words.specs.declared.pointers.Lowtag.TheVariants as lowtags
 use Rattle.lisp_heap.specs.LivingWords.{RefersToCons, IsConsAt}
 use Rattle.lisp_heap.specs.View.{View, heap_of}

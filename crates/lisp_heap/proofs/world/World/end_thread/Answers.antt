@@ -25,12 +25,12 @@ ends_here s w t e h = subst (λ (v : View). next_of v t ≡ nexts.End) (sym e) h
 pub clear-requires : goal.clear-requires
 clear-requires c = cells_room c.self.inside c.args.t c.self.invariant (thread_in c.self.inside c.args.self.now c.self.view_is c.args.t c.requires.thread)
 
-pub end_state-requires : goal.end_state-requires
-end_state-requires c =
+pub end-requires : goal.end-requires
+end-requires c =
     omega (arith, thread_in c.self.inside c.args.self.now c.self.view_is c.args.t c.requires.thread, states_length c.self.inside c.self.invariant)
 
 -- the fields after the call
-abbrev made : goal.After-end_state → Inside
+abbrev made : goal.After-end → Inside
 made c = record {
   alloc = c.self.inside.alloc;
   program = c.self.inside.program;
@@ -38,12 +38,12 @@ made c = record {
   pages = c.self.inside.pages;
   labels = c.self.inside.labels;
   cells = c.clear.new.self;
-  states = c.end_state.new.states;
+  states = c.end.new.self;
   commits = c.self.inside.commits;
   history = c.push.new.self;
 }
 
-sound_made : (c : goal.After-end_state) → IsSound (made c)
+sound_made : (c : goal.After-end) → IsSound (made c)
 sound_made c =
     let s = c.self.inside in
     let lt = thread_in s c.args.self.now c.self.view_is c.args.t c.requires.thread in
@@ -52,10 +52,10 @@ sound_made c =
       pages = s.pages;
       labels = s.labels;
       cells = c.clear.new.self;
-      states = c.end_state.new.states;
+      states = c.end.new.self;
       commits = s.commits;
     }) =
-    rw (c.clear.ensures, c.end_state.ensures)
+    rw (c.clear.ensures, c.end.ensures)
     (after_end_holds s.program (heap s) (parts_of s) c.args.t (thread_there s c.self.invariant c.args.t lt) c.self.invariant.holds) in
     sound_after s (made c) (Ended c.args.t) c.self.invariant refl c.in_ok-push.ensures.items
     (end_next s.program (heap s) c.args.t (ends_here s c.args.self.now c.args.t c.self.view_is c.requires.ends)) held

@@ -43,7 +43,7 @@ made c = record {
   pages = c.take_run.new.self;
   labels = c.self.inside.labels;
   cells = c.self.inside.cells;
-  states = c.open_cons.new.states;
+  states = c.open_cons.new.self;
   commits = c.self.inside.commits;
   history = c.push.new.self;
 }
@@ -63,7 +63,7 @@ sound_made c =
       pages = c.take_run.new.self;
       labels = s.labels;
       cells = s.cells;
-      states = c.open_cons.new.states;
+      states = c.open_cons.new.self;
       commits = s.commits;
     }) =
     rw (c.take_run.ensures.opened refl, c.open_cons.ensures) (opened_holds s c.self.invariant c.args.t (found.0) c.args.first lt found.1 opens lowest) in

@@ -1,7 +1,6 @@
 -- The commit of a cons is one event.
-use Rattle.std.proofs.Common.{◌≡◌, ℕ, ◌+◌, ◌/◌, ◌%◌, ◌++◌, ◌∷◌, [], length, arith, subst, ap, ◌∙◌, sym, refl, Option, Some, IsSome, length-set}
+use Rattle.std.proofs.Common.{◌≡◌, ℕ, ◌+◌, ◌/◌, ◌%◌, ◌++◌, ◌∷◌, [], length, arith, subst, ap, ◌∙◌, sym, refl, Some, IsSome, length-set}
 use Rattle.heap_terms.specs.declared.answers.Answer.TheVariants as answers
-use Rattle.heap_terms.specs.declared.commands.Command.{Command}
 use Rattle.heap_terms.specs.declared.commands.Command.TheVariants as commands
 use Rattle.heap_terms.specs.declared.events.Event.TheVariants.{Did}
 use Rattle.heap_terms.specs.declared.kinds.Kind.TheVariants as kinds
@@ -9,7 +8,7 @@ use Rattle.heap_terms.specs.declared.pages.Next.TheVariants as nexts
 use Rattle.heap_terms.specs.Histories.{command_at, after}
 use Rattle.heap_terms.specs.Regions.{place_for, with_fill}
 use Rattle.heap_terms.specs.Heap.{entry_at, thread_at}
-use Rattle.heap_terms.specs.Words.{word_of}
+use Rattle.heap_terms.specs.Spelling.{word_of}
 use Rattle.heap_terms.specs.Cells.{cell_value}
 use Rattle.heap_laws.proofs.ValidScripts.{script_built}
 use Rattle.lisp_heap.specs.ParcelView.{with_accepted}
@@ -29,9 +28,8 @@ use Rattle.lisp_heap.proofs.PerformLemmas.{Holds-same}
 use Rattle.lisp_heap.proofs.Wishing.{build_command, builds_room, is_cons_command}
 use Rattle.lisp_heap.proofs.world.World.place.Goals as goal
 
-pub unwrap-command-requires : goal.unwrap-command-requires
-unwrap-command-requires c =
-    subst (λ (o : Option Command). IsSome o) (sym c.command.ensures)
+pub current-command-requires-clause-there : goal.current-command-requires-clause-there
+current-command-requires-clause-there c =
     (subst (λ (w : View). IsSome (command_at w.program (heap_of w) c.args.t)) c.self.view_is
     (build_command c.self.inside.program (heap c.self.inside) c.args.t kinds.Cons 2 0
     (subst (λ (w : View). next_of w c.args.t ≡ nexts.Build kinds.Cons 2 0) (sym c.self.view_is) c.requires.builds)))
@@ -39,11 +37,11 @@ unwrap-command-requires c =
 pub unreachable-requires : goal.unreachable-requires
 unreachable-requires c =
     let s = c.self.inside in
-    let at : command_at s.program (heap s) c.args.t ≡ Some c.unwrap-command.result =
-    subst (λ (w : View). command_at w.program (heap_of w) c.args.t ≡ Some c.unwrap-command.result) (sym c.self.view_is) (sym c.command.ensures ∙ c.unwrap-command.ensures) in
+    let at : command_at s.program (heap s) c.args.t ≡ Some c.current-command.result =
+    subst (λ (w : View). command_at w.program (heap_of w) c.args.t ≡ Some c.current-command.result) (sym c.self.view_is) c.current-command.ensures in
     let builds = subst (λ (w : View). next_of w c.args.t ≡ nexts.Build kinds.Cons 2 0) (sym c.self.view_is) c.requires.builds in
-    is_cons_command c.unwrap-command.result (script_built s.program c.args.t (thread_at (heap s) c.args.t).done c.unwrap-command.result c.self.invariant.valid at)
-    (builds_room s.program (heap s) c.args.t c.unwrap-command.result at builds).0 c.in_default.not-NewCons
+    is_cons_command c.current-command.result (script_built s.program c.args.t (thread_at (heap s) c.args.t).done c.current-command.result c.self.invariant.valid at)
+    (builds_room s.program (heap s) c.args.t c.current-command.result at builds).0 c.in_default.not-NewCons
 
 pub cell-first-requires-clause-cell : goal.cell-first-requires-clause-cell
 cell-first-requires-clause-cell c =
@@ -51,7 +49,7 @@ cell-first-requires-clause-cell c =
     let lt = thread_in s c.args.self.now c.self.view_is c.args.t c.requires.thread in
     let at : command_at s.program (heap s) c.args.t ≡ Some (commands.NewCons c.in-NewCons.d c.in-NewCons.a c.in-NewCons.b) =
     subst (λ (w : View). command_at w.program (heap_of w) c.args.t ≡ Some (commands.NewCons c.in-NewCons.d c.in-NewCons.a c.in-NewCons.b)) (sym c.self.view_is)
-    (sym c.command.ensures ∙ c.in-NewCons.ensures) in
+    c.in-NewCons.ensures in
     let builds = subst (λ (w : View). next_of w c.args.t ≡ nexts.Build kinds.Cons 2 0) (sym c.self.view_is) c.requires.builds in
     let place = subst (λ (w : View). c.args.index ≡ place_for (heap_of w) c.args.t kinds.Cons 2) (sym c.self.view_is) c.requires.place in
     (are_cells s c.self.invariant c.args.t c.in-NewCons.d c.in-NewCons.a c.in-NewCons.b c.args.index lt at builds place).1
@@ -62,7 +60,7 @@ cell-second-requires-clause-cell c =
     let lt = thread_in s c.args.self.now c.self.view_is c.args.t c.requires.thread in
     let at : command_at s.program (heap s) c.args.t ≡ Some (commands.NewCons c.in-NewCons.d c.in-NewCons.a c.in-NewCons.b) =
     subst (λ (w : View). command_at w.program (heap_of w) c.args.t ≡ Some (commands.NewCons c.in-NewCons.d c.in-NewCons.a c.in-NewCons.b)) (sym c.self.view_is)
-    (sym c.command.ensures ∙ c.in-NewCons.ensures) in
+    c.in-NewCons.ensures in
     let builds = subst (λ (w : View). next_of w c.args.t ≡ nexts.Build kinds.Cons 2 0) (sym c.self.view_is) c.requires.builds in
     let place = subst (λ (w : View). c.args.index ≡ place_for (heap_of w) c.args.t kinds.Cons 2) (sym c.self.view_is) c.requires.place in
     (are_cells s c.self.invariant c.args.t c.in-NewCons.d c.in-NewCons.a c.in-NewCons.b c.args.index lt at builds place).2
@@ -73,7 +71,7 @@ write-requires c =
     let lt = thread_in s c.args.self.now c.self.view_is c.args.t c.requires.thread in
     let at : command_at s.program (heap s) c.args.t ≡ Some (commands.NewCons c.in-NewCons.d c.in-NewCons.a c.in-NewCons.b) =
     subst (λ (w : View). command_at w.program (heap_of w) c.args.t ≡ Some (commands.NewCons c.in-NewCons.d c.in-NewCons.a c.in-NewCons.b)) (sym c.self.view_is)
-    (sym c.command.ensures ∙ c.in-NewCons.ensures) in
+    c.in-NewCons.ensures in
     let builds = subst (λ (w : View). next_of w c.args.t ≡ nexts.Build kinds.Cons 2 0) (sym c.self.view_is) c.requires.builds in
     let place = subst (λ (w : View). c.args.index ≡ place_for (heap_of w) c.args.t kinds.Cons 2) (sym c.self.view_is) c.requires.place in
     omega (arith, inside_space s c.self.invariant c.args.t c.in-NewCons.d c.in-NewCons.a c.in-NewCons.b c.args.index lt at builds place)
@@ -84,7 +82,7 @@ overflow_add-index c =
     let lt = thread_in s c.args.self.now c.self.view_is c.args.t c.requires.thread in
     let at : command_at s.program (heap s) c.args.t ≡ Some (commands.NewCons c.in-NewCons.d c.in-NewCons.a c.in-NewCons.b) =
     subst (λ (w : View). command_at w.program (heap_of w) c.args.t ≡ Some (commands.NewCons c.in-NewCons.d c.in-NewCons.a c.in-NewCons.b)) (sym c.self.view_is)
-    (sym c.command.ensures ∙ c.in-NewCons.ensures) in
+    c.in-NewCons.ensures in
     let builds = subst (λ (w : View). next_of w c.args.t ≡ nexts.Build kinds.Cons 2 0) (sym c.self.view_is) c.requires.builds in
     let place = subst (λ (w : View). c.args.index ≡ place_for (heap_of w) c.args.t kinds.Cons 2) (sym c.self.view_is) c.requires.place in
     omega (arith, index_below s c.self.invariant c.args.t c.in-NewCons.d c.in-NewCons.a c.in-NewCons.b c.args.index lt at builds place)
@@ -95,7 +93,7 @@ write-requires-2 c =
     let lt = thread_in s c.args.self.now c.self.view_is c.args.t c.requires.thread in
     let at : command_at s.program (heap s) c.args.t ≡ Some (commands.NewCons c.in-NewCons.d c.in-NewCons.a c.in-NewCons.b) =
     subst (λ (w : View). command_at w.program (heap_of w) c.args.t ≡ Some (commands.NewCons c.in-NewCons.d c.in-NewCons.a c.in-NewCons.b)) (sym c.self.view_is)
-    (sym c.command.ensures ∙ c.in-NewCons.ensures) in
+    c.in-NewCons.ensures in
     let builds = subst (λ (w : View). next_of w c.args.t ≡ nexts.Build kinds.Cons 2 0) (sym c.self.view_is) c.requires.builds in
     let place = subst (λ (w : View). c.args.index ≡ place_for (heap_of w) c.args.t kinds.Cons 2) (sym c.self.view_is) c.requires.place in
     let long : length c.write.new.self ≡ length s.space = ap length c.write.ensures ∙ length-set s.space c.args.index c.cell-first.result in
@@ -107,7 +105,7 @@ set-requires c =
     let lt = thread_in s c.args.self.now c.self.view_is c.args.t c.requires.thread in
     let at : command_at s.program (heap s) c.args.t ≡ Some (commands.NewCons c.in-NewCons.d c.in-NewCons.a c.in-NewCons.b) =
     subst (λ (w : View). command_at w.program (heap_of w) c.args.t ≡ Some (commands.NewCons c.in-NewCons.d c.in-NewCons.a c.in-NewCons.b)) (sym c.self.view_is)
-    (sym c.command.ensures ∙ c.in-NewCons.ensures) in
+    c.in-NewCons.ensures in
     let builds = subst (λ (w : View). next_of w c.args.t ≡ nexts.Build kinds.Cons 2 0) (sym c.self.view_is) c.requires.builds in
     let place = subst (λ (w : View). c.args.index ≡ place_for (heap_of w) c.args.t kinds.Cons 2) (sym c.self.view_is) c.requires.place in
     inside_labels s c.self.invariant c.args.t c.in-NewCons.d c.in-NewCons.a c.in-NewCons.b c.args.index lt at builds place
@@ -118,7 +116,7 @@ set_fill-requires-clause-inside c =
     let lt = thread_in s c.args.self.now c.self.view_is c.args.t c.requires.thread in
     let at : command_at s.program (heap s) c.args.t ≡ Some (commands.NewCons c.in-NewCons.d c.in-NewCons.a c.in-NewCons.b) =
     subst (λ (w : View). command_at w.program (heap_of w) c.args.t ≡ Some (commands.NewCons c.in-NewCons.d c.in-NewCons.a c.in-NewCons.b)) (sym c.self.view_is)
-    (sym c.command.ensures ∙ c.in-NewCons.ensures) in
+    c.in-NewCons.ensures in
     let builds = subst (λ (w : View). next_of w c.args.t ≡ nexts.Build kinds.Cons 2 0) (sym c.self.view_is) c.requires.builds in
     let place = subst (λ (w : View). c.args.index ≡ place_for (heap_of w) c.args.t kinds.Cons 2) (sym c.self.view_is) c.requires.place in
     inside_pages s c.self.invariant c.args.t c.in-NewCons.d c.in-NewCons.a c.in-NewCons.b c.args.index lt at builds place
@@ -129,7 +127,7 @@ set_fill-requires-clause-used c =
     let lt = thread_in s c.args.self.now c.self.view_is c.args.t c.requires.thread in
     let at : command_at s.program (heap s) c.args.t ≡ Some (commands.NewCons c.in-NewCons.d c.in-NewCons.a c.in-NewCons.b) =
     subst (λ (w : View). command_at w.program (heap_of w) c.args.t ≡ Some (commands.NewCons c.in-NewCons.d c.in-NewCons.a c.in-NewCons.b)) (sym c.self.view_is)
-    (sym c.command.ensures ∙ c.in-NewCons.ensures) in
+    c.in-NewCons.ensures in
     let builds = subst (λ (w : View). next_of w c.args.t ≡ nexts.Build kinds.Cons 2 0) (sym c.self.view_is) c.requires.builds in
     let place = subst (λ (w : View). c.args.index ≡ place_for (heap_of w) c.args.t kinds.Cons 2) (sym c.self.view_is) c.requires.place in
     is_used s c.self.invariant c.args.t c.in-NewCons.d c.in-NewCons.a c.in-NewCons.b c.args.index lt at builds place
@@ -140,7 +138,7 @@ set_fill-requires-clause-most c =
     let lt = thread_in s c.args.self.now c.self.view_is c.args.t c.requires.thread in
     let at : command_at s.program (heap s) c.args.t ≡ Some (commands.NewCons c.in-NewCons.d c.in-NewCons.a c.in-NewCons.b) =
     subst (λ (w : View). command_at w.program (heap_of w) c.args.t ≡ Some (commands.NewCons c.in-NewCons.d c.in-NewCons.a c.in-NewCons.b)) (sym c.self.view_is)
-    (sym c.command.ensures ∙ c.in-NewCons.ensures) in
+    c.in-NewCons.ensures in
     let builds = subst (λ (w : View). next_of w c.args.t ≡ nexts.Build kinds.Cons 2 0) (sym c.self.view_is) c.requires.builds in
     let place = subst (λ (w : View). c.args.index ≡ place_for (heap_of w) c.args.t kinds.Cons 2) (sym c.self.view_is) c.requires.place in
     fill_room s c.self.invariant c.args.t c.in-NewCons.d c.in-NewCons.a c.in-NewCons.b c.args.index lt at builds place
@@ -151,7 +149,7 @@ write-requires-3-clause-cell c =
     let lt = thread_in s c.args.self.now c.self.view_is c.args.t c.requires.thread in
     let at : command_at s.program (heap s) c.args.t ≡ Some (commands.NewCons c.in-NewCons.d c.in-NewCons.a c.in-NewCons.b) =
     subst (λ (w : View). command_at w.program (heap_of w) c.args.t ≡ Some (commands.NewCons c.in-NewCons.d c.in-NewCons.a c.in-NewCons.b)) (sym c.self.view_is)
-    (sym c.command.ensures ∙ c.in-NewCons.ensures) in
+    c.in-NewCons.ensures in
     let builds = subst (λ (w : View). next_of w c.args.t ≡ nexts.Build kinds.Cons 2 0) (sym c.self.view_is) c.requires.builds in
     let place = subst (λ (w : View). c.args.index ≡ place_for (heap_of w) c.args.t kinds.Cons 2) (sym c.self.view_is) c.requires.place in
     (are_cells s c.self.invariant c.args.t c.in-NewCons.d c.in-NewCons.a c.in-NewCons.b c.args.index lt at builds place).0
@@ -166,7 +164,7 @@ overflow_add-self c =
     let lt = thread_in s c.args.self.now c.self.view_is c.args.t c.requires.thread in
     let at : command_at s.program (heap s) c.args.t ≡ Some (commands.NewCons c.in-NewCons.d c.in-NewCons.a c.in-NewCons.b) =
     subst (λ (w : View). command_at w.program (heap_of w) c.args.t ≡ Some (commands.NewCons c.in-NewCons.d c.in-NewCons.a c.in-NewCons.b)) (sym c.self.view_is)
-    (sym c.command.ensures ∙ c.in-NewCons.ensures) in
+    c.in-NewCons.ensures in
     let builds = subst (λ (w : View). next_of w c.args.t ≡ nexts.Build kinds.Cons 2 0) (sym c.self.view_is) c.requires.builds in
     let place = subst (λ (w : View). c.args.index ≡ place_for (heap_of w) c.args.t kinds.Cons 2) (sym c.self.view_is) c.requires.place in
     omega (arith, few_commits s c.self.invariant c.args.t c.in-NewCons.d c.in-NewCons.a c.in-NewCons.b c.args.index lt at builds place)
@@ -177,7 +175,7 @@ advance-requires-clause-thread c =
     let lt = thread_in s c.args.self.now c.self.view_is c.args.t c.requires.thread in
     let at : command_at s.program (heap s) c.args.t ≡ Some (commands.NewCons c.in-NewCons.d c.in-NewCons.a c.in-NewCons.b) =
     subst (λ (w : View). command_at w.program (heap_of w) c.args.t ≡ Some (commands.NewCons c.in-NewCons.d c.in-NewCons.a c.in-NewCons.b)) (sym c.self.view_is)
-    (sym c.command.ensures ∙ c.in-NewCons.ensures) in
+    c.in-NewCons.ensures in
     let builds = subst (λ (w : View). next_of w c.args.t ≡ nexts.Build kinds.Cons 2 0) (sym c.self.view_is) c.requires.builds in
     let place = subst (λ (w : View). c.args.index ≡ place_for (heap_of w) c.args.t kinds.Cons 2) (sym c.self.view_is) c.requires.place in
     omega (arith, lt, states_length s c.self.invariant)
@@ -188,7 +186,7 @@ advance-requires-clause-room c =
     let lt = thread_in s c.args.self.now c.self.view_is c.args.t c.requires.thread in
     let at : command_at s.program (heap s) c.args.t ≡ Some (commands.NewCons c.in-NewCons.d c.in-NewCons.a c.in-NewCons.b) =
     subst (λ (w : View). command_at w.program (heap_of w) c.args.t ≡ Some (commands.NewCons c.in-NewCons.d c.in-NewCons.a c.in-NewCons.b)) (sym c.self.view_is)
-    (sym c.command.ensures ∙ c.in-NewCons.ensures) in
+    c.in-NewCons.ensures in
     let builds = subst (λ (w : View). next_of w c.args.t ≡ nexts.Build kinds.Cons 2 0) (sym c.self.view_is) c.requires.builds in
     let place = subst (λ (w : View). c.args.index ≡ place_for (heap_of w) c.args.t kinds.Cons 2) (sym c.self.view_is) c.requires.place in
     state_room s c.self.invariant c.args.t (commands.NewCons c.in-NewCons.d c.in-NewCons.a c.in-NewCons.b) lt at
@@ -202,7 +200,7 @@ made c = record {
   pages = c.set_fill.new.self;
   labels = c.set.new.self;
   cells = c.write-3.new.self;
-  states = c.advance.new.states;
+  states = c.advance.new.self;
   commits = c.self.inside.commits + 1;
   history = c.push.new.self;
 }
@@ -213,7 +211,7 @@ sound_made c =
     let lt = thread_in s c.args.self.now c.self.view_is c.args.t c.requires.thread in
     let at : command_at s.program (heap s) c.args.t ≡ Some (commands.NewCons c.in-NewCons.d c.in-NewCons.a c.in-NewCons.b) =
     subst (λ (w : View). command_at w.program (heap_of w) c.args.t ≡ Some (commands.NewCons c.in-NewCons.d c.in-NewCons.a c.in-NewCons.b)) (sym c.self.view_is)
-    (sym c.command.ensures ∙ c.in-NewCons.ensures) in
+    c.in-NewCons.ensures in
     let builds = subst (λ (w : View). next_of w c.args.t ≡ nexts.Build kinds.Cons 2 0) (sym c.self.view_is) c.requires.builds in
     let place = subst (λ (w : View). c.args.index ≡ place_for (heap_of w) c.args.t kinds.Cons 2) (sym c.self.view_is) c.requires.place in
     let e = Did c.args.t (commands.NewCons c.in-NewCons.d c.in-NewCons.a c.in-NewCons.b) (answers.Placed (length (heap s).objects) c.args.index) in
@@ -238,7 +236,7 @@ sound_made c =
       pages = c.set_fill.new.self;
       labels = c.set.new.self;
       cells = c.write-3.new.self;
-      states = c.advance.new.states;
+      states = c.advance.new.self;
       commits = s.commits + 1;
     })
     (w1 ∙ ap (λ (ws : List ℕ). slice_set ws (c.args.index + 1) c.cell-second.result) w2
@@ -260,7 +258,7 @@ returns-clause-ok c =
     let lt = thread_in s c.args.self.now c.self.view_is c.args.t c.requires.thread in
     let at : command_at s.program (heap s) c.args.t ≡ Some (commands.NewCons c.in-NewCons.d c.in-NewCons.a c.in-NewCons.b) =
     subst (λ (w : View). command_at w.program (heap_of w) c.args.t ≡ Some (commands.NewCons c.in-NewCons.d c.in-NewCons.a c.in-NewCons.b)) (sym c.self.view_is)
-    (sym c.command.ensures ∙ c.in-NewCons.ensures) in
+    c.in-NewCons.ensures in
     let builds = subst (λ (w : View). next_of w c.args.t ≡ nexts.Build kinds.Cons 2 0) (sym c.self.view_is) c.requires.builds in
     let place = subst (λ (w : View). c.args.index ≡ place_for (heap_of w) c.args.t kinds.Cons 2) (sym c.self.view_is) c.requires.place in
     let e = Did c.args.t (commands.NewCons c.in-NewCons.d c.in-NewCons.a c.in-NewCons.b) (answers.Placed (length (heap s).objects) c.args.index) in
@@ -274,7 +272,7 @@ returns-clause-agrees c = λ q owner. (
     let lt = thread_in s c.args.self.now c.self.view_is c.args.t c.requires.thread in
     let at : command_at s.program (heap s) c.args.t ≡ Some (commands.NewCons c.in-NewCons.d c.in-NewCons.a c.in-NewCons.b) =
     subst (λ (w : View). command_at w.program (heap_of w) c.args.t ≡ Some (commands.NewCons c.in-NewCons.d c.in-NewCons.a c.in-NewCons.b)) (sym c.self.view_is)
-    (sym c.command.ensures ∙ c.in-NewCons.ensures) in
+    c.in-NewCons.ensures in
     let builds = subst (λ (w : View). next_of w c.args.t ≡ nexts.Build kinds.Cons 2 0) (sym c.self.view_is) c.requires.builds in
     let place = subst (λ (w : View). c.args.index ≡ place_for (heap_of w) c.args.t kinds.Cons 2) (sym c.self.view_is) c.requires.place in
     let e = Did c.args.t (commands.NewCons c.in-NewCons.d c.in-NewCons.a c.in-NewCons.b) (answers.Placed (length (heap s).objects) c.args.index) in
@@ -288,7 +286,7 @@ returns-clause-others c = λ q other. (
     let lt = thread_in s c.args.self.now c.self.view_is c.args.t c.requires.thread in
     let at : command_at s.program (heap s) c.args.t ≡ Some (commands.NewCons c.in-NewCons.d c.in-NewCons.a c.in-NewCons.b) =
     subst (λ (w : View). command_at w.program (heap_of w) c.args.t ≡ Some (commands.NewCons c.in-NewCons.d c.in-NewCons.a c.in-NewCons.b)) (sym c.self.view_is)
-    (sym c.command.ensures ∙ c.in-NewCons.ensures) in
+    c.in-NewCons.ensures in
     let builds = subst (λ (w : View). next_of w c.args.t ≡ nexts.Build kinds.Cons 2 0) (sym c.self.view_is) c.requires.builds in
     let place = subst (λ (w : View). c.args.index ≡ place_for (heap_of w) c.args.t kinds.Cons 2) (sym c.self.view_is) c.requires.place in
     let e = Did c.args.t (commands.NewCons c.in-NewCons.d c.in-NewCons.a c.in-NewCons.b) (answers.Placed (length (heap s).objects) c.args.index) in

@@ -4,7 +4,7 @@ use Rattle.std.proofs.lemmas.List.{get_or_default}
 use Rattle.heap_terms.specs.declared.cells.Value.{Value}
 use Rattle.heap_terms.specs.declared.cells.Value.TheVariants.{Ref, Nil}
 use Rattle.heap_terms.specs.WellFormed.{IsLiving}
-use Rattle.heap_terms.specs.Words.{word_of}
+use Rattle.heap_terms.specs.Spelling.{word_of}
 use Rattle.lisp_heap.specs.LivingWords.{IsWord}
 use Rattle.lisp_heap.specs.Sound.{view_of}
 use Rattle.lisp_heap.specs.View.{View, heap_of}
