@@ -14,12 +14,12 @@ use Rattle.heap_terms.specs.Histories.{IsNext, after, Lawful, LawfulFrom, replay
 use Rattle.heap_terms.specs.Layout.{size_of}
 use Rattle.heap_terms.specs.Objects.{Object}
 use Rattle.heap_terms.specs.Regions.{committed, counting, triggers, run_used, pages_after, place_for, with_destination, destination_of, initial_contents}
-use Rattle.heap_terms.specs.Simple.{answer_of}
+use Rattle.heap_terms.specs.Outcomes.{outcome_of}
 use Rattle.heap_laws.specs.CommandLaws.{name_in, name_in_answer, names_of}
 use Rattle.heap_laws.proofs.Events.Causes.{by_events}
 use Rattle.heap_laws.proofs.Events.OwnThread.{with_destination-objects}
-use Rattle.heap_laws.proofs.Events.Tasks.{effect-board}
-use Rattle.heap_laws.proofs.OneCommand.Outcome.{simple_places_nothing}
+use Rattle.heap_laws.proofs.Events.CollectedThreads.{collected_threads}
+use Rattle.heap_laws.proofs.Outcomes.Table.{row}
 use Rattle.heap_laws.proofs.Ranges.ObjectCount.{start_empty}
 use Rattle.heap_laws.proofs.Ranges.OnlyConses.{opened-objects}
 
@@ -41,21 +41,21 @@ committed-length p a t c kind n =
     ∙ with_destination-objects placed t (destination_of c) (values.Ref (length a.objects)))
     ∙ length_push a.objects (Some object)
 
-no_name : (a : NamedHeap) (t : ℕ) (c : Command) (answer : Answer) → answer_of a t c ≡ Some answer → name_in_answer answer ≡ None
-no_name a t c (answers.Placed name index) e = absurd (simple_places_nothing a t c name index e)
-no_name a t c answers.Done e = refl
-no_name a t c (answers.Val v) e = refl
-no_name a t c (answers.Word w) e = refl
-no_name a t c answers.Yes e = refl
-no_name a t c answers.No e = refl
-no_name a t c answers.Absent e = refl
-no_name a t c (answers.Live v) e = refl
-no_name a t c answers.Broken e = refl
-no_name a t c (answers.Count n) e = refl
-no_name a t c (answers.Ran ids) e = refl
-no_name a t c (answers.Page view) e = refl
-no_name a t c (answers.Stat allocated cum num) e = refl
-no_name a t c (answers.Refused why) e = refl
+no_name : (answer : Answer) → ((name index : ℕ) → answer ≡ answers.Placed name index → ⊥) → name_in_answer answer ≡ None
+no_name (answers.Placed name index) never = absurd (never name index refl)
+no_name answers.Done never = refl
+no_name (answers.Val v) never = refl
+no_name (answers.Word w) never = refl
+no_name answers.Yes never = refl
+no_name answers.No never = refl
+no_name answers.Absent never = refl
+no_name (answers.Live v) never = refl
+no_name answers.Broken never = refl
+no_name (answers.Count n) never = refl
+no_name (answers.Ran ids) never = refl
+no_name (answers.Page view) never = refl
+no_name (answers.Stat allocated cum num) never = refl
+no_name (answers.Refused why) never = refl
 
 -- an event gives no name, or the next one
 abbrev Gives : NamedHeap → Event → NamedHeap → Type 0
@@ -63,10 +63,11 @@ Gives a e b = ((name_in e ≡ None) × (length b.objects ≡ length a.objects)) 
 
 gives : (p : Program) (a : NamedHeap) (e : Event) → IsNext p a e → Gives a e (after p a e)
 gives p a e next = by_events p a (λ e b. Gives a e b)
-    (λ t c answer d. inl (no_name a t c answer d.answered, (effect-board a t c).objects))
+    (λ t c answer d. inl (ap name_in_answer d.answered ∙ no_name (outcome_of a t c).answer (row a t c).nameless, (row a t c).names))
     (λ t c answer d. inl (ap name_in_answer d.answered, refl))
     (λ t c answer kind n seed d. inr (ap name_in_answer d.answered, committed-length p a t c kind n))
     (λ t ty first k d. inl (refl, ap length (opened-objects a t ty first k)))
+    (λ t last passes d. inl (refl, (collected_threads a t last passes).objects))
     (λ t d. inl (refl, refl))
     e next
 

@@ -17,13 +17,29 @@ use Rattle.heap_terms.specs.Cells.{cell_value}
 use Rattle.heap_terms.specs.Heap.{NamedHeap, Thread, object_at, thread_at, zero_value}
 use Rattle.heap_terms.specs.Histories.{IsNext, after, advance}
 use Rattle.heap_terms.specs.Objects.{Object, Contents, ConsOf, VectorOf, InstanceOf, ClosureOf, WordsOf, WeakTo, TableOf, fields_of, kind_of}
-use Rattle.heap_terms.specs.Simple.{answer_of, effect_of, fields_at, fields_of_object, refusing, with_field, with_field_at, object_with_field}
+use Rattle.heap_terms.specs.Outcome.{done, refused, needing, indexing}
+use Rattle.heap_terms.specs.Outcomes.{outcome_of}
+use Rattle.heap_terms.specs.Referents.{contents_of, fields_at, refilled, with_field, with_field_at}
 use Rattle.heap_laws.specs.CommandLaws.{LeavesTheRest, field_at}
-use Rattle.heap_laws.proofs.Events.Effects.{by_change, fields_named, with_field-kind}
+use Rattle.heap_laws.proofs.Outcomes.Parts.{by_needing, by_indexing, fields_refer, with_field-kind}
 use Rattle.heap_laws.proofs.Lists.Places.{IsSome-from}
 use Rattle.heap_laws.proofs.OneCommand.Outcome.{simple_outcome}
 use Rattle.heap_laws.proofs.Ranges.PlainEvents.{name_below}
 use Rattle.heap_laws.proofs.WellFormed.Threads.{thread_cases}
+
+-- the fields of an object, if it is there, and an object in which one was written
+abbrev fields_of_object : Option Object → Option (List Value)
+fields_of_object o = option_and_then fields_of (contents_of o)
+
+abbrev object_with_field : Option Object → ℕ → Value → Option Object
+object_with_field o i v = refilled o (λ k. with_field k i v)
+
+-- a value that has fields refers to an object that has them
+fields_named : (objects : List (Option Object)) (v : Value) (vs : List Value) → fields_at objects v ≡ Some vs →
+    (name : ℕ) × (o : Object) × (v ≡ values.Ref name) × (object_at objects name ≡ Some o) × (fields_of o.contents ≡ Some vs)
+fields_named objects v vs e =
+    let f = fields_refer objects v vs e in
+    (f.1.name, f.1.object, f.1.is, f.1.there, ap (λ (k : Contents). fields_of k) f.1.holds ∙ f.2)
 
 -- a command further, no cell has changed
 pub advance-cells : (a : NamedHeap) (t u : ℕ) (c : Cell) → cell_value (advance a t) u c ≡ cell_value a u c
@@ -68,11 +84,12 @@ fields_with_field (WeakTo x) vs i w e l = cc
 fields_with_field (TableOf x b pairs) vs i w e l = cc
 
 -- a `put` that is done finds the field
-put_done : (o : Option (List Value)) (i : ℕ) → Some (refusing o i (λ _. answers.Done)) ≡ Some answers.Done → (vs : List Value) × (o ≡ Some vs) × (ltb i (length vs) ≡ true)
-put_done None i e = cc
-put_done (Some vs) i e = (vs, refl, at (ltb i (length vs)) e)
+put_done : (o : Option (List Value)) (i : ℕ) (a new : NamedHeap) → answers.Done ≡ (needing o a (λ vs. indexing vs i zero_value a (λ _. done new))).answer →
+    (vs : List Value) × (o ≡ Some vs) × (ltb i (length vs) ≡ true)
+put_done None i a new e = cc
+put_done (Some vs) i a new e = (vs, refl, at (ltb i (length vs)) e)
   where
-    at : (b : Bool) → Some (cond b answers.Done (answers.Refused OutOfRange)) ≡ Some answers.Done → b ≡ true
+    at : (b : Bool) → answers.Done ≡ (cond b (done new) (refused OutOfRange a)).answer → b ≡ true
     at true e = refl
     at false e = cc
 
@@ -93,22 +110,22 @@ fields_at-written objects at w i vs found l =
 pub read_after_put : (p : Program) (a : NamedHeap) (t : ℕ) (c : Cell) (i : ℕ) (b : Cell) → IsNext p a (Did t (Put c i b) answers.Done) →
     (u : ℕ) (d e : Cell) (answer : Answer) → cell_value (after p a (Did t (Put c i b) answers.Done)) u e ≡ cell_value a t c →
     IsNext p (after p a (Did t (Put c i b) answers.Done)) (Did u (Get d e i) answer) → answer ≡ answers.Val (cell_value a t b)
-unfolding answer_of effect_of
+unfolding outcome_of
 read_after_put p a t c i b put u d e answer same get =
     let at = cell_value a t c in
     let w = cell_value a t b in
     let first = simple_outcome p a t (Put c i b) answers.Done refl put in
-    let found = put_done (fields_at a.objects at) i first.0 in
-    let l : i < length found.0 = ltb-true i (length found.0) found.2 in
     let new : NamedHeap = record a { objects = with_field_at a.objects at i w } in
-    let changed : effect_of a t (Put c i b) ≡ new = rw (found.1, found.2) refl in
+    let found = put_done (fields_at a.objects at) i a new first.0 in
+    let l : i < length found.0 = ltb-true i (length found.0) found.2 in
+    let changed : (outcome_of a t (Put c i b)).heap ≡ new = rw (found.1, found.2) refl in
     let heap : after p a (Did t (Put c i b) answers.Done) ≡ advance new t = first.1 ∙ ap (λ (x : NamedHeap). advance x t) changed in
     let second = simple_outcome p (after p a (Did t (Put c i b) answers.Done)) u (Get d e i) answer refl get in
     let fields : fields_at (after p a (Did t (Put c i b) answers.Done)).objects (cell_value (after p a (Did t (Put c i b) answers.Done)) u e) ≡ Some (set found.0 i w) =
     ap (fields_at (after p a (Did t (Put c i b) answers.Done)).objects) same
     ∙ ap (λ (x : NamedHeap). fields_at x.objects at) heap ∙ fields_at-written a.objects at w i found.0 found.1 l in
     let inside : ltb i (length (set found.0 i w)) ≡ true = rw (length-set found.0 i w) found.2 in
-    let said : Some (answers.Val (get_or (set found.0 i w) i zero_value)) ≡ Some answer = rw (fields, inside) at second.0 in
+    let said : answer ≡ answers.Val (get_or (set found.0 i w) i zero_value) = rw (fields, inside) at second.0 in
     let holds : get_or (set found.0 i w) i zero_value ≡ w = get_or-set_same found.0 i w zero_value l in
     let result : answer ≡ answers.Val (get_or (set found.0 i w) i zero_value) = cc in
     result ∙ ap (λ (v : Value). answers.Val v) holds
@@ -184,15 +201,14 @@ module _ (a : NamedHeap) (t x i : ℕ) (w : Value) (vs : List Value) (o : Object
 
 pub put_leaves : (p : Program) (a : NamedHeap) (t : ℕ) (c : Cell) (i : ℕ) (b : Cell) (answer : Answer) → IsNext p a (Did t (Put c i b) answer) →
     LeavesTheRest a (after p a (Did t (Put c i b) answer)) (cell_value a t c) i
-unfolding effect_of
+unfolding outcome_of
 put_leaves p a t c i b answer put =
     let at = cell_value a t c in
     let w = cell_value a t b in
     let outcome = simple_outcome p a t (Put c i b) answer refl put in
     subst (λ (y : NamedHeap). LeavesTheRest a y at i) (sym outcome.1)
-    (by_change (λ (y : NamedHeap). LeavesTheRest a (advance y t) at i) (fields_at a.objects at) i a
-    (λ _. record a { objects = with_field_at a.objects at i w }) (unchanged a t at i)
-    (λ vs found l.
+    (by_needing (λ (y : NamedHeap). LeavesTheRest a (advance y t) at i) (fields_at a.objects at) a _ (unchanged a t at i) (λ vs found.
+    by_indexing (λ (y : NamedHeap). LeavesTheRest a (advance y t) at i) vs i zero_value a (λ _. done (record a { objects = with_field_at a.objects at i w })) (unchanged a t at i) (λ l.
     let named = fields_named a.objects at vs found in
     subst (λ (v : Value). LeavesTheRest a (advance (record a { objects = with_field_at a.objects v i w }) t) v i) (sym named.2)
-    (written a t named.0 i w vs named.1 named.3 (subst (λ (v : Value). fields_at a.objects v ≡ Some vs) named.2 found) l)))
+    (written a t named.0 i w vs named.1 named.3 (subst (λ (v : Value). fields_at a.objects v ≡ Some vs) named.2 found) l))))

@@ -1,6 +1,7 @@
 -- The runs of one program without collections are one.
-use Rattle.std.proofs.Common.{◌≡◌, ℕ, zero, suc, ◌+◌, ◌-◌, List, [], ◌∷◌, ◌++◌, length, map, ◌⊎◌, inl, inr, refl, sym, ◌∙◌, ap, subst, arith, append_assoc, append-nil}
-use Rattle.std.proofs.lemmas.Bool.{cases_order}
+use Rattle.std.proofs.Common.{◌≡◌, ℕ, zero, suc, ◌+◌, ◌-◌, List, [], ◌∷◌, ◌++◌, length, map, false, ◌⊎◌, inl, inr, refl, sym, ◌∙◌, ap, subst, arith, append_assoc, append-nil}
+use Rattle.std.proofs.lemmas.Bool.{cases_order, true≢false}
+use Rattle.std.proofs.lemmas.List.{length-append, length_push, get_or_append_left, get_or_push}
 use Rattle.std.specs.List.{range_with_len}
 use Rattle.heap_terms.specs.declared.events.Event.{Event}
 use Rattle.heap_terms.specs.declared.events.Event.TheVariants.{Did, Opened, Collected, Ended}
@@ -13,7 +14,8 @@ use Rattle.heap_terms.specs.Heap.{NamedHeap}
 use Rattle.heap_terms.specs.Histories.{IsNext, next, replay, thread_of}
 use Rattle.heap_terms.specs.Schedules.{IsTurn, AreTurns, rounds_of, IsRun}
 use Rattle.heap_terms.specs.Text.{journal_text}
-use Rattle.heap_laws.specs.CommandLaws.{HasNoCollection}
+use Rattle.heap_laws.specs.CommandLaws.{HasNoCollection, is_collection}
+use Rattle.heap_laws.specs.Order.{orders_of}
 use Rattle.heap_laws.proofs.Events.Tasks.{next_ended}
 use Rattle.heap_laws.proofs.Order.Determined.{one_next}
 
@@ -22,29 +24,65 @@ done_no_event : (p : Program) (a : NamedHeap) (e : Event) → next p a (thread_o
 unfolding IsNext
 done_no_event p a (Did t c answer) done e = rw done at e.1
 done_no_event p a (Opened t ty first k) done e = (let never : nexts.Done ≡ nexts.Open = sym done ∙ e.0 in cc)
-done_no_event p a (Collected t last passes) done e = e
+done_no_event p a (Collected t last passes) done e = (let never : nexts.Done ≡ nexts.Collect last = sym done ∙ e.0 in cc)
 done_no_event p a (Ended t) done e = (let never : nexts.Done ≡ nexts.End = sym done ∙ e in cc)
 
--- a turn has one outcome
-turn_same : (p : Program) (old : List Event) (t : ℕ) (new other : List Event) → IsTurn p old t new → IsTurn p old t other → new ≡ other
-turn_same p old t new other one two = elim one [
+-- what comes before in a history without collections has none, and its last event is none
+none_before : (h more : List Event) → HasNoCollection (h ++ more) → HasNoCollection h
+none_before h more none = λ k d l. subst (λ (e : Event). is_collection e ≡ false) (get_or_append_left h more d k l)
+    (none k d (omega (arith, length-append h more)))
+
+last_is_none : (h : List Event) (e : Event) → HasNoCollection (h ++ e ∷ []) → is_collection e ≡ false
+last_is_none h e none = subst (λ (x : Event). is_collection x ≡ false) (get_or_push h e e (length h) refl)
+    (none (length h) e (omega (arith, length_push h e)))
+
+no_orders : (e : Event) → is_collection e ≡ false → orders_of e ≡ []
+no_orders (Did t c answer) none = refl
+no_orders (Opened t ty first k) none = refl
+no_orders (Collected t last passes) none = absurd (true≢false none)
+no_orders (Ended t) none = refl
+
+-- turns add to a history
+turn_adds : (p : Program) (old : List Event) (t : ℕ) (new : List Event) → IsTurn p old t new → (more : List Event) × (new ≡ old ++ more)
+turn_adds p old t new (inl quiet) = ([], quiet.1 ∙ sym (append-nil old))
+turn_adds p old t new (inr event) = (event.event ∷ [], event.history)
+
+turns_add : (p : Program) (ts : List ℕ) (old new : List Event) → AreTurns p old ts new → (more : List Event) × (new ≡ old ++ more)
+turns_add p [] old new turns = ([], turns ∙ sym (append-nil old))
+turns_add p (t ∷ ts) old new turns =
+    let first = turn_adds p old t turns.0 turns.1 in
+    let rest = turns_add p ts turns.0 new turns.2 in
+    (first.0 ++ rest.0, rest.1 ∙ ap (λ (h : List Event). h ++ rest.0) first.1 ∙ append_assoc old first.0 rest.0)
+
+-- so a history without collections had none before its last turns
+none_earlier : (p : Program) (ts : List ℕ) (old new : List Event) → AreTurns p old ts new → HasNoCollection new → HasNoCollection old
+none_earlier p ts old new turns none =
+    let adds = turns_add p ts old new turns in
+    none_before old adds.0 (subst (λ (h : List Event). HasNoCollection h) adds.1 none)
+
+-- a turn that is no collection has one outcome
+turn_same : (p : Program) (old : List Event) (t : ℕ) (new other : List Event) → HasNoCollection new → HasNoCollection other → IsTurn p old t new → IsTurn p old t other → new ≡ other
+turn_same p old t new other none never one two = elim one [
   | inl quiet ↦ elim two [
     | inl still ↦ quiet.1 ∙ sym still.1
     | inr event ↦ absurd (done_no_event p (replay p old) event.event (ap (next p (replay p old)) event.thread ∙ quiet.0) event.lawful)
   ]
   | inr event ↦ elim two [
     | inl still ↦ absurd (done_no_event p (replay p old) event.event (ap (next p (replay p old)) event.thread ∙ still.0) event.lawful)
-    | inr more ↦ event.history
-        ∙ ap (λ (e : Event). old ++ e ∷ []) (one_next p (replay p old) event.event more.event event.lawful more.lawful (event.thread ∙ sym more.thread))
-        ∙ sym more.history
+    | inr more ↦ (
+        let own = no_orders event.event (last_is_none old event.event (subst (λ (h : List Event). HasNoCollection h) event.history none)) in
+        let theirs = no_orders more.event (last_is_none old more.event (subst (λ (h : List Event). HasNoCollection h) more.history never)) in
+        event.history
+        ∙ ap (λ (e : Event). old ++ e ∷ []) (one_next p (replay p old) event.event more.event event.lawful more.lawful (event.thread ∙ sym more.thread) (own ∙ sym theirs))
+        ∙ sym more.history)
   ]
 ]
 
-turns_same : (p : Program) (ts : List ℕ) (old new other : List Event) → AreTurns p old ts new → AreTurns p old ts other → new ≡ other
-turns_same p [] old new other one two = one ∙ sym two
-turns_same p (t ∷ ts) old new other one two =
-    let first : one.0 ≡ two.0 = turn_same p old t one.0 two.0 one.1 two.1 in
-    turns_same p ts two.0 new other (subst (λ (h : List Event). AreTurns p h ts new) first one.2) two.2
+turns_same : (p : Program) (ts : List ℕ) (old new other : List Event) → HasNoCollection new → HasNoCollection other → AreTurns p old ts new → AreTurns p old ts other → new ≡ other
+turns_same p [] old new other none never one two = one ∙ sym two
+turns_same p (t ∷ ts) old new other none never one two =
+    let first : one.0 ≡ two.0 = turn_same p old t one.0 two.0 (none_earlier p ts one.0 new one.2 none) (none_earlier p ts two.0 other two.2 never) one.1 two.1 in
+    turns_same p ts two.0 new other none never (subst (λ (h : List Event). AreTurns p h ts new) first one.2) two.2
 
 turns_parts : (p : Program) (ts us : List ℕ) (old new : List Event) → AreTurns p old (ts ++ us) new →
     (between : List Event) × AreTurns p old ts between × AreTurns p between us new
@@ -72,22 +110,22 @@ rounds_more n k (suc m) =
     (rest.0 ++ range_with_len 0 n, ap (rounds_of n) count ∙ ap (λ (ts : List ℕ). ts ++ range_with_len 0 n) rest.1 ∙ append_assoc (rounds_of n k) rest.0 (range_with_len 0 n))
 
 -- a run and another of as many rounds or more have one history
-history_same : (p : Program) (k m : ℕ) (h g : List Event) → IsComplete p h → AreTurns p [] (p.schedule ++ rounds_of (length p.threads) k) h →
+history_same : (p : Program) (k m : ℕ) (h g : List Event) → HasNoCollection h → HasNoCollection g → IsComplete p h → AreTurns p [] (p.schedule ++ rounds_of (length p.threads) k) h →
     AreTurns p [] (p.schedule ++ rounds_of (length p.threads) (k + m)) g → h ≡ g
-history_same p k m h g complete one two =
+history_same p k m h g none never complete one two =
     let rest = rounds_more (length p.threads) k m in
     let cut : p.schedule ++ rounds_of (length p.threads) (k + m) ≡ (p.schedule ++ rounds_of (length p.threads) k) ++ rest.0 =
     ap (λ (ts : List ℕ). p.schedule ++ ts) rest.1 ∙ sym (append_assoc p.schedule (rounds_of (length p.threads) k) rest.0) in
     let parts = turns_parts p (p.schedule ++ rounds_of (length p.threads) k) rest.0 [] g (subst (λ (ts : List ℕ). AreTurns p [] ts g) cut two) in
-    let same : h ≡ parts.0 = turns_same p (p.schedule ++ rounds_of (length p.threads) k) [] h parts.0 one parts.1 in
+    let same : h ≡ parts.0 = turns_same p (p.schedule ++ rounds_of (length p.threads) k) [] h parts.0 none (none_earlier p rest.0 parts.0 g parts.2 never) one parts.1 in
     sym (turns_over p rest.0 h g complete (subst (λ (x : List Event). AreTurns p x rest.0 g) (sym same) parts.2))
 
 pub one_run : (p : Program) (lines more : List ReplayLine) (h g : List Event) → IsRun p lines h → IsRun p more g →
     HasNoCollection h → HasNoCollection g → h ≡ g
 one_run p lines more h g one two none never = elim (order one.rounds two.rounds) [
-  | inl some ↦ history_same p one.rounds some.0 h g one.complete one.turns
+  | inl some ↦ history_same p one.rounds some.0 h g none never one.complete one.turns
       (subst (λ (k : ℕ). AreTurns p [] (p.schedule ++ rounds_of (length p.threads) k) g) some.1 two.turns)
-  | inr some ↦ sym (history_same p two.rounds some.0 g h two.complete two.turns
+  | inr some ↦ sym (history_same p two.rounds some.0 g h never none two.complete two.turns
       (subst (λ (k : ℕ). AreTurns p [] (p.schedule ++ rounds_of (length p.threads) k) h) some.1 one.turns))
 ]
   where
