@@ -313,6 +313,7 @@ module _ (s : Inside) (h : IsSound s) (t : ℕ) (d x y : Cell) (index : ℕ) (lt
         boxed = beside.boxed;
         unboxed = beside.unboxed;
         run = beside.run;
+        run_type = beside.run_type;
       } in
       subst (λ (b : NamedHeap). Agrees b (with_accepted q)) (sym placed_after)
       (Agrees-thread celled t (record (thread_at celled t) { done = (thread_at celled t).done + 1 }) (with_accepted q) refl refl refl refl on_celled)

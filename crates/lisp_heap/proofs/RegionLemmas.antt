@@ -143,6 +143,7 @@ module _ (s : Inside) (h : IsSound s) (t : ℕ) (c : Command) (first : ℕ) (lt 
         boxed = beside.boxed;
         unboxed = beside.unboxed;
         run = beside.run;
+        run_type = beside.run_type;
       })
 
   pub opened_others : (q : ParcelView) → q.owner ≢ t → Agrees (heap s) q → Agrees (after s.program (heap s) (Opened t types.Cons first 1)) q

@@ -1,5 +1,6 @@
 -- When a parcel has just the regions that are out for its owner.
-use Rattle.std.specs.Prelude.{◌≡◌, ◌≢◌, ℕ, ◌+◌, ◌*◌, ◌<◌, option_map, List, length, slice_index_or}
+use Rattle.std.specs.Prelude.{◌≡◌, ◌≢◌, ℕ, ◌+◌, ◌*◌, ◌<◌, option_map, option_and_then, Option, Some, None, List, length, slice_index_or}
+use Rattle.heap_terms.specs.declared.kinds.PageType.{PageType}
 use Rattle.heap_terms.specs.declared.pages.Entry.{Entry}
 use Rattle.heap_terms.specs.declared.pages.Entry.TheVariants.{Free, Used}
 use Rattle.heap_terms.specs.declared.pages.Next.{Next}
@@ -27,12 +28,23 @@ small_out pages page = record { first = page; pages = 1; next = page_words * pag
 abbrev pub run_out : List Entry → ℕ → RegionPlace
 run_out pages first = record { first = first; pages = run_pages_of (entry_at pages first); next = page_words * first }
 
--- A parcel has just the regions that are out for its owner, at the places to which they are filled.
+-- the type of a page in use
+abbrev pub type_of : Entry → Option PageType
+type_of Free = None
+type_of (Used ty g fill first pages) = Some ty
+
+-- the type of the pages of an open run
+abbrev pub run_type_of : List Entry → Option ℕ → Option PageType
+run_type_of pages run = option_and_then (λ first. type_of (entry_at pages first)) run
+
+-- A parcel has just the regions that are out for its owner, at the places to which they are filled; its run is of the
+-- type of the pages of the run that is out.
 pub record Agrees (a : NamedHeap) (q : ParcelView) : Type 0 where
   pub cons : option_map place_of q.cons ≡ option_map (small_out a.pages) (thread_at a q.owner).cons_page
   pub boxed : option_map place_of q.boxed ≡ option_map (small_out a.pages) (thread_at a q.owner).boxed_page
   pub unboxed : option_map place_of q.unboxed ≡ option_map (small_out a.pages) (thread_at a q.owner).unboxed_page
   pub run : option_map place_of q.run ≡ option_map (run_out a.pages) (thread_at a q.owner).open_run
+  pub run_type : option_map (λ r. r.ty) q.run ≡ run_type_of a.pages (thread_at a q.owner).open_run
 
 -- every parcel of another owner that agreed before an event still agrees after it
 abbrev pub OthersAgree : NamedHeap → NamedHeap → ℕ → Type 0

@@ -6,7 +6,7 @@ ghost use Rattle.heap_terms.specs.declared.kinds.PageType.{PageType};
 ghost use Rattle.heap_terms.specs.declared.limits.TheConstants.{MOST_PAGES};
 ghost use Rattle.heap_terms.specs.Heap.{entry_at, fill_of, thread_at};
 ghost use Rattle.heap_terms.specs.Layout.{page_words};
-ghost use Rattle.lisp_heap.specs.Agreement.{Agrees, run_out, run_pages_of, small_out};
+ghost use Rattle.lisp_heap.specs.Agreement.{Agrees, run_out, run_pages_of, run_type_of, small_out};
 ghost use Rattle.lisp_heap.specs.ParcelView.{place_of, small_region};
 ghost use Rattle.lisp_heap.specs.State.{state_of, state_page};
 ghost use Rattle.lisp_heap.specs.View.{heap_of};
@@ -27,6 +27,7 @@ impl World {
             && self.small_agrees(parcel, state, PageType::Boxed)
             && self.small_agrees(parcel, state, PageType::Unboxed)
             && self.run_agrees(parcel, state)
+            && parcel.run_type() == self.run_type(state)
     }
 
     /// The state of a thread. A number that no thread has stands for a thread that has ended.
@@ -71,6 +72,20 @@ impl World {
                 first == page && pages == self.run_pages(page) && next == PAGE_WORDS * page
             }
             _ => false,
+        }
+    }
+
+    /// The type of the pages of a state's open run.
+    fn run_type(&self, state: ThreadState) -> Option<PageType>
+        requires { ForSome state.open_run (λ page. page < length (heap_of self.now).pages) }
+        ensures { result ≡ run_type_of (heap_of self.now).pages state.open_run }
+    {
+        match state.open_run {
+            None => None,
+            Some(page) => match self.pages.entry(page) {
+                Entry::Free => None,
+                Entry::Used { ty, .. } => Some(ty),
+            },
         }
     }
 

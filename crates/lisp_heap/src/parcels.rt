@@ -218,6 +218,16 @@ impl Parcel {
         place(&self.run)
     }
 
+    /// The type of the pages of the run.
+    pub(crate) fn run_type(&self) -> Option<PageType>
+        ensures { result ≡ option_map (λ r. r.ty) self.now.run }
+    {
+        match &self.run {
+            None => None,
+            Some(lease) => Some(lease.region.page_type()),
+        }
+    }
+
     /// Where the next cons begins, an index in words.
     pub(crate) fn next_cons(&self) -> u32
         requires { IsSome self.now.cons }
