@@ -1,0 +1,4 @@
+pub mod Pieces
+pub mod Walked
+pub mod Searched
+pub mod Filled
