@@ -1,6 +1,6 @@
 -- Laws of walks: the words of a page tell its pieces, and where they stand for a heap these are the heap's objects, with
 -- fillers between them.
-use Rattle.std.specs.Prelude.{◌≡◌, ℕ, ◌+◌, ◌*◌, ◌<◌, List, length}
+use Rattle.std.specs.Prelude.{◌≡◌, ℕ, ◌+◌, ◌*◌, List}
 use Rattle.heap_terms.specs.Heap.{NamedHeap}
 use Rattle.heap_terms.specs.Layout.{page_words}
 use Rattle.heap_terms.specs.LaidOut.{Piece, AreLaidOut, IsLaidOut, ObjectStart, AreObjectsOn, AreHeapsObjects}
@@ -14,8 +14,7 @@ PiecesAreDetermined = (words : List ℕ) (from end : ℕ) (pieces others : List 
 
 -- where words stand for a sound heap, each page can be walked
 abbrev pub PagesOfHeapsAreLaidOut : Type 0
-PagesOfHeapsAreLaidOut = (a : NamedHeap) (words : List ℕ) (page : ℕ) → IsSound a → WordsStand a words → page < length a.pages →
-    IsLaidOut words a.pages page
+PagesOfHeapsAreLaidOut = (a : NamedHeap) (words : List ℕ) (page : ℕ) → IsSound a → WordsStand a words → IsLaidOut words a.pages page
 
 -- and the objects that a walk finds are all the heap's objects that begin on the page, in order
 abbrev pub WalksMeetTheObjects : Type 0
