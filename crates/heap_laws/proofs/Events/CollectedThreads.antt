@@ -1,13 +1,12 @@
 -- What a collection changes of the threads: their regions are closed, and the collecting one owes nothing any more.
-use Rattle.std.proofs.Common.{◌≡◌, ◌≢◌, ℕ, ◌+◌, ◌<◌, ◌≤◌, List, [], ◌∷◌, length, map, Option, None, inl, inr, refl, sym, ◌∙◌, ap, arith}
+use Rattle.std.proofs.Common.{◌≡◌, ◌≢◌, ℕ, ◌+◌, ◌<◌, List, [], ◌∷◌, length, map, None, inl, inr, refl, sym, ◌∙◌, ap, arith}
 use Rattle.std.proofs.lemmas.Bool.{cases_lt}
 use Rattle.std.proofs.lemmas.List.{length-set, length-map, get_or-map, get_or_past}
 use Rattle.std.proofs.lemmas.List.FromFn.{length-range_with_len}
 use Rattle.heap_terms.specs.declared.events.PassRecord.{PassRecord}
 use Rattle.heap_terms.specs.Collections.{closed_thread, closed, after_pass_of, after_passes, collected}
 use Rattle.heap_terms.specs.Generations.{names}
-use Rattle.heap_terms.specs.Heap.{NamedHeap, Thread, thread_at, with_thread, ended_thread, fresh_thread}
-use Rattle.heap_terms.specs.Objects.{Object}
+use Rattle.heap_terms.specs.Heap.{NamedHeap, Thread, thread_at, ended_thread, fresh_thread}
 use Rattle.heap_terms.specs.Passes.{after_pass}
 use Rattle.heap_laws.proofs.WellFormed.Threads.{changed_thread, other_thread}
 

@@ -1,11 +1,10 @@
 -- What the counts of `auto` change of the threads.
-use Rattle.std.proofs.Common.{◌≡◌, ◌≢◌, ℕ, ◌+◌, ◌-◌, ◌≤◌, List, length, Option, Some, None, Bool, true, false, inl, inr, refl, sym, ◌∙◌, arith}
+use Rattle.std.proofs.Common.{◌≡◌, ◌≢◌, ℕ, ◌+◌, ◌-◌, ◌≤◌, length, Option, Some, None, Bool, true, false, inl, inr, refl, sym, ◌∙◌, arith}
 use Rattle.std.proofs.lemmas.Bool.{cases_Bool, ltb-true, false≢true}
 use Rattle.std.proofs.lemmas.List.{length-set}
 use Rattle.std.specs.Prelude.{if◌then◌else◌, ◌==◌, nat_lt, nat_le, unwrap_or}
 use Rattle.heap_terms.specs.declared.programs.Program.{Program}
 use Rattle.heap_terms.specs.Heap.{NamedHeap, Thread, thread_at, with_thread}
-use Rattle.heap_terms.specs.Objects.{Object}
 use Rattle.heap_terms.specs.Regions.{triggers, counting}
 use Rattle.heap_laws.specs.Remaining.{owes, triggers_left}
 use Rattle.heap_laws.proofs.Events.Tasks.{IsSameTask, same_task}

@@ -1,7 +1,6 @@
 -- What an event changes of a thread beside its cells: how far it is, its regions, what it owes, and whether it has ended.
-use Rattle.std.proofs.Common.{◌≡◌, ◌≢◌, ℕ, ◌+◌, ◌<◌, ◌≤◌, List, length, Option, Some, None, Bool, true, false, inl, inr, refl, sym, ◌∙◌, set, subst}
+use Rattle.std.proofs.Common.{◌≡◌, ◌≢◌, ℕ, ◌+◌, ◌<◌, ◌≤◌, List, length, Option, Some, None, Bool, true, false, inl, inr, refl, sym, ◌∙◌, set}
 use Rattle.std.proofs.lemmas.List.{length-set}
-use Rattle.std.proofs.lemmas.Bool.{cases_Bool, cases_eq}
 use Rattle.std.specs.Prelude.{if◌then◌else◌, ◌==◌}
 use Rattle.heap_terms.specs.declared.cells.Cell.{Cell}
 use Rattle.heap_terms.specs.declared.cells.Cell.TheVariants.{Stack, Exact, Shared}
@@ -20,7 +19,7 @@ use Rattle.heap_terms.specs.Outcomes.{outcome_of}
 use Rattle.heap_terms.specs.Valid.{IsInRange, is_gc}
 use Rattle.heap_terms.specs.WellFormed.{IsWellFormed}
 use Rattle.heap_laws.proofs.Events.Causes.{collects_next}
-use Rattle.heap_laws.proofs.Outcomes.Changes.{IsRewritten, by_outcome}
+use Rattle.heap_laws.proofs.Outcomes.Changes.{by_outcome}
 use Rattle.heap_laws.proofs.WellFormed.Threads.{thread_cases, changed_thread, other_thread}
 
 -- the two are the same but for their cells

@@ -65,5 +65,9 @@ pub sum_weighted : (f g : ℕ → ℕ) (a n : ℕ) → sum_by (λ t. f t + colle
 sum_weighted f g a zero = refl
 sum_weighted f g a (suc n) =
     let rest = sum_weighted f g (a + 1) n in
-    omega (arith, sum_by-cons f a (range_with_len (a + 1) n), sum_by-cons g a (range_with_len (a + 1) n),
-    sum_by-cons (λ t. f t + collection_weight * g t) a (range_with_len (a + 1) n))
+    omega (
+      arith,
+      sum_by-cons f a (range_with_len (a + 1) n),
+      sum_by-cons g a (range_with_len (a + 1) n),
+      sum_by-cons (λ t. f t + collection_weight * g t) a (range_with_len (a + 1) n),
+    )

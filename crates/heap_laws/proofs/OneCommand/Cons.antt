@@ -14,15 +14,14 @@ use Rattle.heap_terms.specs.declared.kinds.Kind.TheVariants as kinds
 use Rattle.heap_terms.specs.declared.pages.Entry.TheVariants.{Used}
 use Rattle.heap_terms.specs.declared.programs.Program.{Program}
 use Rattle.heap_terms.specs.Cells.{cell_value, with_cell}
-use Rattle.heap_terms.specs.Heap.{NamedHeap, Thread, object_at, thread_at, with_thread, ended_thread, fresh_thread, zero_value}
+use Rattle.heap_terms.specs.Heap.{NamedHeap, Thread, object_at, thread_at, zero_value}
 use Rattle.heap_terms.specs.Histories.{IsNext, after, advance, Lawful, replay}
 use Rattle.heap_terms.specs.Layout.{page_words, page_type_of, size_of}
 use Rattle.heap_terms.specs.Objects.{Object, ConsOf}
 use Rattle.heap_terms.specs.Regions.{committed, has_room, place_for}
-use Rattle.heap_terms.specs.Valid.{IsValid, IsCell, IsCommand}
-use Rattle.heap_terms.specs.WellFormed.{IsWellFormed, IsThread}
+use Rattle.heap_terms.specs.Valid.{IsValid, IsCell}
 use Rattle.heap_laws.proofs.Events.Tasks.{with_cell-objects}
-use Rattle.heap_laws.proofs.OneCommand.Outcome.{IsCommit, commit_outcome}
+use Rattle.heap_laws.proofs.OneCommand.Outcome.{commit_outcome}
 use Rattle.heap_laws.proofs.OneCommand.Put.{advance-cells}
 use Rattle.heap_laws.proofs.Programs.BuiltCommands.{script_command, script_thread}
 use Rattle.heap_laws.proofs.WellFormed.Committed.{HasPage, has_page, place_small, heap_with, new_object, committed-small}

@@ -1,18 +1,12 @@
 -- The names that a history gives are 0, 1, 2 and so on.
-use Rattle.std.proofs.Common.{◌≡◌, ℕ, zero, suc, ◌+◌, List, [], ◌∷◌, ◌++◌, length, Option, Some, None, Bool, true, false, ◌⊎◌, inl, inr, refl, sym, ◌∙◌, ap, arith, cond}
+use Rattle.std.proofs.Common.{◌≡◌, ℕ, ◌+◌, List, [], ◌∷◌, length, Some, None, ◌⊎◌, inl, inr, refl, sym, ◌∙◌, ap, arith}
 use Rattle.std.proofs.lemmas.List.{length_push}
-use Rattle.std.specs.List.{filter_map, range_with_len}
-use Rattle.heap_terms.specs.declared.answers.Answer.{Answer}
-use Rattle.heap_terms.specs.declared.answers.Answer.TheVariants as answers
-use Rattle.heap_terms.specs.declared.cells.Value.TheVariants as values
-use Rattle.heap_terms.specs.declared.commands.Command.{Command}
+use Rattle.std.specs.List.{range_with_len}
 use Rattle.heap_terms.specs.declared.events.Event.{Event}
-use Rattle.heap_terms.specs.declared.kinds.Kind.{Kind}
 use Rattle.heap_terms.specs.declared.programs.Program.{Program}
-use Rattle.heap_terms.specs.Heap.{NamedHeap, start, thread_at, with_thread}
+use Rattle.heap_terms.specs.Heap.{NamedHeap, start}
 use Rattle.heap_terms.specs.Histories.{IsNext, after, Lawful, LawfulFrom, replay, replay_from}
 use Rattle.heap_terms.specs.Layout.{size_of}
-use Rattle.heap_terms.specs.Objects.{Object}
 use Rattle.heap_terms.specs.Regions.{place_for}
 use Rattle.heap_laws.specs.CommandLaws.{name_in, name_in_answer, names_of}
 use Rattle.heap_laws.proofs.Events.Causes.{by_events}
@@ -33,8 +27,10 @@ gives p a e next = by_events p a (λ e b. Gives a e b)
     let tame = outcome_tame a t c in
     inl (ap name_in_answer d.answered ∙ tame.nameless, tame.names))
     (λ t c answer d. inl (ap name_in_answer d.answered, refl))
-    (λ t c answer kind n seed d. inr (ap name_in_answer d.answered,
-    ap length (built_heap p a t c kind n).objects ∙ length_push a.objects (Some (new_object a t c (place_for a t kind (size_of kind n))))))
+    (λ t c answer kind n seed d. inr (
+      ap name_in_answer d.answered,
+      ap length (built_heap p a t c kind n).objects ∙ length_push a.objects (Some (new_object a t c (place_for a t kind (size_of kind n)))),
+    ))
     (λ t ty first k d. inl (refl, ap length (opened-objects a t ty first k)))
     (λ t last passes d. inl (refl, (collected_threads a t last passes).objects))
     (λ t d. inl (refl, refl))

@@ -2,7 +2,6 @@
 -- every command: it gives no name, and a refusal changes nothing.
 use Rattle.std.proofs.Common.{◌≡◌, ◌≢◌, ℕ, List, [], ◌∷◌, ◌++◌, length, take, Option, Some, None, Bool, true, false, refl, sym, ◌∙◌, ap, set}
 use Rattle.std.proofs.lemmas.List.{length-set}
-use Rattle.std.specs.List.{filter}
 use Rattle.std.specs.Prelude.{if◌then◌else◌, ◌||◌, ◌==◌, ◌-◌, nat_lt}
 use Rattle.heap_terms.specs.declared.answers.Answer.{Answer}
 use Rattle.heap_terms.specs.declared.answers.Answer.TheVariants as answers
@@ -31,7 +30,7 @@ use Rattle.heap_terms.specs.PageViews.{page_view}
 use Rattle.heap_terms.specs.Pairs.{has_key, value_at, with_pair, without_key}
 use Rattle.heap_terms.specs.RawCells.{raw_value}
 use Rattle.heap_terms.specs.Referents.{name_in, fields_at, raws_at, pointee_at, table_at, changed_at, refilled, with_field_at, with_raws}
-use Rattle.heap_terms.specs.Regions.{Wish, Nothing, Make, wish_of, committed, has_room, place_for}
+use Rattle.heap_terms.specs.Regions.{Wish, Nothing, Make, wish_of, committed, place_for}
 use Rattle.heap_terms.specs.Spelling.{word_of}
 use Rattle.heap_laws.specs.CommandLaws.{name_in_answer}
 use Rattle.heap_laws.proofs.Events.Causes.{Builds, by_command}

@@ -1,11 +1,11 @@
 -- A `put`: what is read after it, and what it leaves.
-use Rattle.std.proofs.Common.{◌≡◌, ◌≢◌, ℕ, zero, suc, ◌+◌, ◌<◌, List, [], ◌∷◌, length, Option, Some, None, Bool, true, false, inl, inr, refl, sym, ◌∙◌, ap, subst, arith, cond, ltb, get_or, set}
+use Rattle.std.proofs.Common.{◌≡◌, ◌≢◌, ℕ, zero, suc, ◌+◌, ◌<◌, List, [], ◌∷◌, length, Option, Some, None, inl, inr, refl, sym, ◌∙◌, ap, subst, arith, ltb, get_or, set}
 use Rattle.std.proofs.lemmas.Bool.{cases_eq, cases_Bool, ltb-true, lt-ltb}
 use Rattle.std.proofs.lemmas.List.{get_or-set_same, get_or-set_other, length-set}
-use Rattle.std.specs.Prelude.{slice_get, option_and_then, option_map, IsSome}
+use Rattle.std.specs.Prelude.{slice_get, option_and_then, option_map}
 use Rattle.heap_terms.specs.declared.answers.Answer.{Answer}
 use Rattle.heap_terms.specs.declared.answers.Answer.TheVariants as answers
-use Rattle.heap_terms.specs.declared.answers.Refusal.TheVariants.{NotType, OutOfRange}
+use Rattle.heap_terms.specs.declared.answers.Refusal.TheVariants.{OutOfRange}
 use Rattle.heap_terms.specs.declared.cells.Cell.{Cell}
 use Rattle.heap_terms.specs.declared.cells.Cell.TheVariants.{Stack, Exact, Shared}
 use Rattle.heap_terms.specs.declared.cells.Value.{Value}
@@ -14,14 +14,14 @@ use Rattle.heap_terms.specs.declared.commands.Command.TheVariants.{Get, Put}
 use Rattle.heap_terms.specs.declared.events.Event.TheVariants.{Did}
 use Rattle.heap_terms.specs.declared.programs.Program.{Program}
 use Rattle.heap_terms.specs.Cells.{cell_value, with_cell}
-use Rattle.heap_terms.specs.Heap.{NamedHeap, Thread, object_at, thread_at, with_thread, zero_value}
+use Rattle.heap_terms.specs.Heap.{NamedHeap, Thread, object_at, thread_at, zero_value}
 use Rattle.heap_terms.specs.Histories.{IsNext, after, advance}
 use Rattle.heap_terms.specs.Objects.{Object, Contents, ConsOf, VectorOf, InstanceOf, ClosureOf, WordsOf, WeakTo, TableOf, fields_of, kind_of}
-use Rattle.heap_terms.specs.Outcome.{Outcome, done, answering, needing, indexing}
+use Rattle.heap_terms.specs.Outcome.{done, answering, needing, indexing}
 use Rattle.heap_terms.specs.Outcomes.{outcome_of}
 use Rattle.heap_terms.specs.Referents.{contents_of, fields_at, with_field, with_field_at}
-use Rattle.heap_laws.specs.CommandLaws.{LeavesTheRest, field_at, kind_at, place_at}
-use Rattle.heap_laws.proofs.Lists.Places.{set_cases, IsSome-from}
+use Rattle.heap_laws.specs.CommandLaws.{LeavesTheRest}
+use Rattle.heap_laws.proofs.Lists.Places.{IsSome-from}
 use Rattle.heap_laws.proofs.OneCommand.Outcome.{simple_outcome}
 use Rattle.heap_laws.proofs.Outcomes.Parts.{by_needing, by_indexing, Refers, fields_refer, changed_is, with_field-kind}
 use Rattle.heap_laws.proofs.Ranges.PlainEvents.{name_below}

@@ -11,9 +11,9 @@ use Rattle.heap_terms.specs.declared.programs.Program.{Program}
 use Rattle.heap_terms.specs.declared.steps.ReplayLine.{ReplayLine}
 use Rattle.heap_terms.specs.declared.steps.ReplayLine.TheVariants as replay_lines
 use Rattle.heap_terms.specs.Complete.{IsComplete}
-use Rattle.heap_terms.specs.Heap.{NamedHeap, thread_at}
-use Rattle.heap_terms.specs.Histories.{IsNext, IsAnswer, next, replay, thread_of}
-use Rattle.heap_terms.specs.Schedules.{IsEventOf, IsTurn, AreTurns, rounds_of, IsRun}
+use Rattle.heap_terms.specs.Heap.{NamedHeap}
+use Rattle.heap_terms.specs.Histories.{IsNext, next, replay, thread_of}
+use Rattle.heap_terms.specs.Schedules.{IsTurn, AreTurns, rounds_of, IsRun}
 use Rattle.heap_terms.specs.Text.{journal_text}
 use Rattle.heap_laws.specs.CommandLaws.{is_collection, orders_in, HasNoCollection}
 use Rattle.heap_laws.specs.Order.{orders_of}

@@ -1,18 +1,18 @@
 -- The order in which a pass takes its names determines its record, and those of all passes a collection.
-use Rattle.std.proofs.Common.{◌≡◌, ◌≢◌, ℕ, zero, suc, ◌+◌, ◌<◌, ◌≤◌, List, [], ◌∷◌, map, filter, Option, Some, Bool, true, false, ◌⊎◌, inl, inr, refl, sym, ◌∙◌, subst, ap, arith}
+use Rattle.std.proofs.Common.{◌≡◌, ℕ, suc, ◌+◌, ◌<◌, List, [], ◌∷◌, map, Some, Bool, true, false, ◌⊎◌, inl, inr, refl, sym, ◌∙◌, subst, ap, arith}
 use Rattle.std.proofs.lemmas.Bool.{cases_Bool, eqb-true, false≢true}
 use Rattle.std.proofs.lemmas.List.Elements.{All-head, All-tail}
-use Rattle.std.specs.List.{All, AllPairs, list_any, count_by, range_with_len}
-use Rattle.std.specs.Prelude.{◌==◌, ◌&&◌, not, if◌then◌else◌}
+use Rattle.std.specs.List.{All, AllPairs, list_any, count_by}
+use Rattle.std.specs.Prelude.{◌==◌, ◌&&◌, not}
 use Rattle.heap_terms.specs.declared.events.PassRecord.{PassRecord}
 use Rattle.heap_terms.specs.declared.events.PinAt.{PinAt}
 use Rattle.heap_terms.specs.declared.events.Placing.{Placing}
-use Rattle.heap_terms.specs.Collections.{after_pass_of, IsPassOf, goes_on_after, ArePasses}
+use Rattle.heap_terms.specs.Collections.{after_pass_of, ArePasses}
 use Rattle.heap_terms.specs.Generations.{is_of, names}
 use Rattle.heap_terms.specs.Heap.{NamedHeap, object_at}
-use Rattle.heap_terms.specs.Live.{IsClosed, AreLiveNames}
+use Rattle.heap_terms.specs.Live.{AreLiveNames}
 use Rattle.heap_terms.specs.Objects.{Object}
-use Rattle.heap_terms.specs.Passes.{remains, order_of, freed_of, dead_of, kept_of, ArePins, IsPass}
+use Rattle.heap_terms.specs.Passes.{remains, order_of, freed_of, ArePins, IsPass}
 use Rattle.heap_terms.specs.Placement.{placement}
 use Rattle.heap_terms.specs.Policy.{raises, target_of}
 use Rattle.heap_terms.specs.Roots.{is_pinned}

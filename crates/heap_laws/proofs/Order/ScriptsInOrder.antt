@@ -1,8 +1,7 @@
 -- In a complete history each thread does its commands once and in order, and then ends.
-use Rattle.std.proofs.Common.{◌≡◌, ◌≢◌, ℕ, ◌+◌, ◌<◌, ◌≤◌, List, [], ◌∷◌, ◌++◌, length, Option, Some, None, true, false, inl, inr, refl, sym, ◌∙◌, subst, ap, arith, drop}
+use Rattle.std.proofs.Common.{◌≡◌, ◌≢◌, ℕ, ◌<◌, ◌≤◌, List, [], ◌∷◌, ◌++◌, length, Option, Some, None, true, false, inl, inr, refl, sym, ◌∙◌, subst, ap, drop}
 use Rattle.std.proofs.lemmas.Bool.{cases_eq, cases_Bool, false≢true, eq-eqb, ne_eqb}
-use Rattle.std.proofs.lemmas.List.{drop_more, drop_all, append-nil}
-use Rattle.std.proofs.lemmas.Option.{get_or_from_slice_get}
+use Rattle.std.proofs.lemmas.List.{drop_all, append-nil}
 use Rattle.std.specs.List.{filter, filter_map, cons_option}
 use Rattle.heap_terms.specs.declared.commands.Command.{Command}
 use Rattle.heap_terms.specs.declared.events.Event.{Event}
@@ -10,7 +9,7 @@ use Rattle.heap_terms.specs.declared.events.Event.TheVariants.{Did, Opened, Coll
 use Rattle.heap_terms.specs.declared.programs.Program.{Program}
 use Rattle.heap_terms.specs.Complete.{IsComplete}
 use Rattle.heap_terms.specs.Heap.{NamedHeap, Thread, start, thread_at}
-use Rattle.heap_terms.specs.Histories.{IsNext, after, LawfulFrom, replay_from, replay, script_of, command_at, thread_of}
+use Rattle.heap_terms.specs.Histories.{after, LawfulFrom, replay_from, replay, script_of, thread_of}
 use Rattle.heap_laws.specs.Order.{events_of, command_in, commands_of, is_end, EndsOnce}
 use Rattle.heap_terms.specs.Valid.{IsValid}
 use Rattle.heap_terms.specs.WellFormed.{IsWellFormed}

@@ -1,11 +1,11 @@
 -- What a command that allocates nothing may change, by the kinds of change: nothing, a cell, the thread's words and
 -- numbers, an object in its place, the finalizers, or the queue.
-use Rattle.std.proofs.Common.{◌≡◌, ℕ, ℤ, zero, suc, ◌+◌, ◌-◌, ◌^◌, ◌<◌, ◌≤◌, List, [], ◌∷◌, ◌++◌, length, take, set, Option, Some, None, Bool, true, false, inl, inr, refl, sym, ◌∙◌, subst, ap, arith}
-use Rattle.std.proofs.lemmas.Bool.{ltb-true, false≢true, cases_lt}
+use Rattle.std.proofs.Common.{◌≡◌, ℕ, zero, suc, ◌+◌, ◌-◌, ◌^◌, ◌<◌, ◌≤◌, List, [], ◌∷◌, ◌++◌, length, take, set, Option, Some, None, Bool, false, refl, sym, ◌∙◌, subst, ap, arith}
+use Rattle.std.proofs.lemmas.Bool.{ltb-true, false≢true}
 use Rattle.std.proofs.lemmas.List.{length-set, length-take, length_push}
 use Rattle.std.proofs.lemmas.List.Elements.{All-push, All-filter}
 use Rattle.std.specs.List.{All, filter}
-use Rattle.std.specs.Prelude.{IfSome, if◌then◌else◌, ◌||◌, ◌==◌, not, nat_lt, max, slice_index_or}
+use Rattle.std.specs.Prelude.{IfSome, ◌||◌, ◌==◌, not, nat_lt, slice_index_or}
 use Rattle.heap_terms.specs.declared.answers.Answer.TheVariants.{Val}
 use Rattle.heap_terms.specs.declared.cells.Cell.{Cell}
 use Rattle.heap_terms.specs.declared.cells.Raw.{Raw}
@@ -19,15 +19,15 @@ use Rattle.heap_terms.specs.Cells.{cell_value, with_cell}
 use Rattle.heap_terms.specs.Heap.{NamedHeap, Thread, thread_at, with_thread, object_at, zero_value}
 use Rattle.heap_terms.specs.Living.{IsLiving, HoldsLiving, IsShaped}
 use Rattle.heap_terms.specs.Objects.{Object, Contents, ConsOf, VectorOf, InstanceOf, ClosureOf, WordsOf, WeakTo, TableOf, kind_of, payload_of}
-use Rattle.heap_terms.specs.Outcome.{Outcome, done, answering, needing}
+use Rattle.heap_terms.specs.Outcome.{Outcome, done, answering}
 use Rattle.heap_terms.specs.Outcomes.{outcome_of}
 use Rattle.heap_terms.specs.Outcomes.CollectionCommands.{owing}
 use Rattle.heap_terms.specs.Outcomes.RawCommands.{taking}
 use Rattle.heap_terms.specs.Outcomes.TableCommands.{found_outcome}
 use Rattle.heap_terms.specs.Outcomes.WeakCommands.{weak_outcome}
 use Rattle.heap_terms.specs.Pairs.{has_key, value_at, with_pair, without_key}
-use Rattle.heap_terms.specs.RawCells.{raw_value, with_raw, word_plus}
-use Rattle.heap_terms.specs.Referents.{name_in, fields_at, raws_at, pointee_at, table_at, Table, with_field, with_field_at, with_raws, with_pairs, changed_at}
+use Rattle.heap_terms.specs.RawCells.{raw_value, with_raw}
+use Rattle.heap_terms.specs.Referents.{name_in, fields_at, raws_at, pointee_at, table_at, with_field, with_field_at, with_raws, with_pairs, changed_at}
 use Rattle.heap_terms.specs.Sound.{IsFinalizer}
 use Rattle.heap_terms.specs.Valid.{IsInRange, is_gc}
 use Rattle.heap_terms.specs.WellFormed.{IsWellFormed}

@@ -1,25 +1,24 @@
 -- While `gc` is not built and `auto` is 0 no thread owes a collection, so that nobody collects.
-use Rattle.std.proofs.Common.{◌≡◌, ℕ, ◌<◌, List, length, Option, Some, None, Bool, true, false, inl, inr, refl, sym, ◌∙◌, ap}
-use Rattle.std.proofs.lemmas.Bool.{cases_eq, cases_lt}
-use Rattle.std.proofs.lemmas.List.{get_or_past}
+use Rattle.std.proofs.Common.{◌≡◌, ℕ, List, Some, None, false, inl, inr, refl, sym, ◌∙◌, ap}
+use Rattle.std.proofs.lemmas.Bool.{cases_eq}
 use Rattle.heap_terms.specs.declared.commands.Command.{Command}
 use Rattle.heap_terms.specs.declared.commands.Command.TheVariants.{Fix, NewCons, Get, Put, Show}
 use Rattle.heap_terms.specs.declared.events.Event.{Event}
 use Rattle.heap_terms.specs.declared.pages.Next.TheVariants as nexts
 use Rattle.heap_terms.specs.declared.programs.Program.{Program}
-use Rattle.heap_terms.specs.Heap.{NamedHeap, Thread, start, thread_at, with_thread, ended_thread, fresh_thread}
-use Rattle.heap_terms.specs.Histories.{IsNext, after, advance, next, Lawful, replay}
+use Rattle.heap_terms.specs.Heap.{NamedHeap, Thread, start, thread_at, with_thread, ended_thread}
+use Rattle.heap_terms.specs.Histories.{IsNext, after, next, Lawful, replay}
 use Rattle.heap_terms.specs.Outcomes.{outcome_of}
 use Rattle.heap_terms.specs.Regions.{committed, opened}
 use Rattle.heap_terms.specs.Valid.{IsValid, is_gc}
 use Rattle.heap_terms.specs.WellFormed.{IsWellFormed}
 use Rattle.heap_laws.proofs.Events.Appending.{kept_by_events}
-use Rattle.heap_laws.proofs.Events.Causes.{by_events, alive_thread}
+use Rattle.heap_laws.proofs.Events.Causes.{by_events}
 use Rattle.heap_laws.proofs.Events.OwnThread.{built_heap}
 use Rattle.heap_laws.proofs.Events.Tasks.{OweNothing, never_collects, outcome-board}
 use Rattle.heap_laws.proofs.Programs.BuiltCommands.{IsBuilt, script_built, script_thread, script_command}
 use Rattle.heap_laws.proofs.WellFormed.RegionOpened.{opens_run, thread_with_run}
-use Rattle.heap_laws.proofs.WellFormed.Replayed.{after-well_formed, replay-well_formed}
+use Rattle.heap_laws.proofs.WellFormed.Replayed.{after-well_formed}
 use Rattle.heap_laws.proofs.WellFormed.Threads.{start-well_formed, start_thread, thread_cases}
 
 -- no command that is built asks for a collection

@@ -1,5 +1,5 @@
 -- A valid program makes at most 20,000 objects, and all of them are conses.
-use Rattle.std.proofs.Common.{◌≡◌, ℕ, ◌+◌, ◌<◌, ◌≤◌, List, [], length, map, Bool, true, inl, inr, refl, sym, ◌∙◌, subst, ap, arith, get_or}
+use Rattle.std.proofs.Common.{◌≡◌, ℕ, ◌+◌, ◌<◌, ◌≤◌, List, [], length, map, true, inl, inr, refl, sym, ◌∙◌, subst, ap, arith, get_or}
 use Rattle.std.proofs.lemmas.Bool.{cases_lt, cases_eq, false≢true}
 use Rattle.std.proofs.lemmas.List.{length-map, get_or-map, get_or_past}
 use Rattle.std.specs.List.{range_with_len, sum_by}
@@ -10,7 +10,6 @@ use Rattle.heap_terms.specs.declared.programs.Program.{Program}
 use Rattle.heap_terms.specs.declared.limits.TheConstants.{MOST_COMMANDS}
 use Rattle.heap_terms.specs.Heap.{NamedHeap, Thread, start, thread_at, fresh_thread, ended_thread}
 use Rattle.heap_terms.specs.Histories.{IsNext, after, Lawful, replay, script_of, thread_of}
-use Rattle.heap_laws.specs.Order.{is_end}
 use Rattle.heap_terms.specs.Valid.{IsValid}
 use Rattle.heap_terms.specs.WellFormed.{IsWellFormed}
 use Rattle.heap_laws.proofs.Events.Appending.{kept_by_events}
@@ -68,32 +67,32 @@ moved-counted p a b event h w l m =
     let n = commands_in event in
     let one = few_in event in
     record {
-  formed = w;
-  within = λ u. elim (cases_eq u t) [
-    | inl same ↦ subst (λ (x : ℕ). (thread_at b x).done ≤ length (script_of p x)) (sym same)
-        (let done = m.done in let before = h.within t in elim (cases_lt 0 n) [
-          | inl some ↦ (let below = m.within some in omega arith)
-          | inr none ↦ omega arith
-        ])
-    | inr other ↦ rw (m.others u other).done (h.within u)
-  ];
-  over = λ u lu e. elim (cases_eq u t) [
-    | inl same ↦ subst (λ (x : ℕ). length (script_of p x) ≤ (thread_at b x).done) (sym same)
-        (let done = m.done in
-        let ended : (thread_at b t).ended ≡ true = subst (λ (x : ℕ). (thread_at b x).ended ≡ true) same e in
-        let over = m.over (sym m.ended ∙ ended) in omega arith)
-    | inr other ↦ rw (m.others u other).done (h.over u lu (sym (m.others u other).ended ∙ e))
-  ];
-  few = (
-      let f : ℕ → ℕ = λ u. (thread_at a u).done in
-      let g : ℕ → ℕ = λ u. (thread_at b u).done in
-      let change : sum_by g (range_with_len 0 (length p.threads)) + f t ≡ sum_by f (range_with_len 0 (length p.threads)) + g t =
-      sum_change f g t 0 (length p.threads) (omega arith) (omega arith) (λ u other. (m.others u other).done) in
-      let done = m.done in
-      let objects = m.objects in
-      let few = h.few in
-      omega arith);
-}
+      formed = w;
+      within = λ u. elim (cases_eq u t) [
+        | inl same ↦ subst (λ (x : ℕ). (thread_at b x).done ≤ length (script_of p x)) (sym same)
+            (let done = m.done in let before = h.within t in elim (cases_lt 0 n) [
+              | inl some ↦ (let below = m.within some in omega arith)
+              | inr none ↦ omega arith
+            ])
+        | inr other ↦ rw (m.others u other).done (h.within u)
+      ];
+      over = λ u lu e. elim (cases_eq u t) [
+        | inl same ↦ subst (λ (x : ℕ). length (script_of p x) ≤ (thread_at b x).done) (sym same)
+            (let done = m.done in
+            let ended : (thread_at b t).ended ≡ true = subst (λ (x : ℕ). (thread_at b x).ended ≡ true) same e in
+            let over = m.over (sym m.ended ∙ ended) in omega arith)
+        | inr other ↦ rw (m.others u other).done (h.over u lu (sym (m.others u other).ended ∙ e))
+      ];
+      few = (
+          let f : ℕ → ℕ = λ u. (thread_at a u).done in
+          let g : ℕ → ℕ = λ u. (thread_at b u).done in
+          let change : sum_by g (range_with_len 0 (length p.threads)) + f t ≡ sum_by f (range_with_len 0 (length p.threads)) + g t =
+          sum_change f g t 0 (length p.threads) (omega arith) (omega arith) (λ u other. (m.others u other).done) in
+          let done = m.done in
+          let objects = m.objects in
+          let few = h.few in
+          omega arith);
+    }
 
 -- the thread of an event is one of the program's
 pub event_thread : (p : Program) (a : NamedHeap) (e : Event) → IsValid p → IsWellFormed p a → IsNext p a e → thread_of e < length p.threads

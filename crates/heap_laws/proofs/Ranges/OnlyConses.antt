@@ -1,11 +1,10 @@
 -- A valid program makes conses alone, since no other word that allocates is read.
-use Rattle.std.proofs.Common.{◌≡◌, ℕ, ◌+◌, ◌<◌, ◌≤◌, List, [], ◌∷◌, ◌++◌, length, map, Option, Some, None, Bool, true, false, inl, inr, refl, ◌∙◌, ap, arith, set}
+use Rattle.std.proofs.Common.{◌≡◌, ℕ, ◌+◌, ◌<◌, ◌≤◌, List, [], ◌∷◌, ◌++◌, length, Option, Some, None, Bool, false, inl, inr, refl, ◌∙◌, arith, set}
 use Rattle.std.proofs.lemmas.Bool.{cases_lt, cases_Bool}
 use Rattle.std.proofs.lemmas.List.{get_or_past}
 use Rattle.std.proofs.lemmas.List.FromFn.{length-map-range_with_len, get_or-map-range_with_len}
 use Rattle.std.specs.Prelude.{IfSome}
 use Rattle.heap_terms.specs.declared.cells.Value.{Value}
-use Rattle.heap_terms.specs.declared.cells.Value.TheVariants as values
 use Rattle.heap_terms.specs.declared.commands.Command.{Command}
 use Rattle.heap_terms.specs.declared.events.Event.{Event}
 use Rattle.heap_terms.specs.declared.events.PassRecord.{PassRecord}
@@ -14,7 +13,6 @@ use Rattle.heap_terms.specs.declared.limits.TheConstants.{MOST_PAGES}
 use Rattle.heap_terms.specs.declared.kinds.PageType.{PageType}
 use Rattle.heap_terms.specs.declared.programs.Program.{Program}
 use Rattle.heap_terms.specs.Collections.{closed, after_pass_of, after_passes, collected}
-use Rattle.heap_terms.specs.Generations.{names}
 use Rattle.heap_terms.specs.Heap.{NamedHeap, start, thread_at, object_at}
 use Rattle.heap_terms.specs.Histories.{IsNext, after, Lawful, replay}
 use Rattle.heap_terms.specs.Objects.{Object, Contents, ConsOf, VectorOf, InstanceOf, ClosureOf, WordsOf, WeakTo, TableOf, kind_of}

@@ -1,14 +1,11 @@
 -- The events of a valid program are plain.
-use Rattle.std.proofs.Common.{◌≡◌, ℕ, ◌+◌, ◌*◌, ◌<◌, ◌≤◌, List, [], ◌∷◌, ◌++◌, length, Option, Some, None, Bool, true, false, inl, inr, refl, sym, ◌∙◌, subst, ap, arith}
+use Rattle.std.proofs.Common.{◌≡◌, ℕ, ◌*◌, ◌<◌, ◌≤◌, List, [], ◌∷◌, ◌++◌, length, Option, Some, None, inl, inr, refl, sym, ◌∙◌, subst, ap, arith}
 use Rattle.std.proofs.lemmas.Bool.{cases_lt, false≢true}
 use Rattle.std.proofs.lemmas.List.{get_or_past, get_or_push, length_push}
 use Rattle.std.proofs.lemmas.List.Elements.{All-from_recursion}
-use Rattle.std.proofs.lemmas.Option.{same_Some}
 use Rattle.std.specs.List.{All, AllByRecursion}
-use Rattle.std.specs.Prelude.{IsSome, if◌then◌else◌, nat_lt, slice_index_or}
-use Rattle.heap_terms.specs.declared.answers.Answer.{Answer}
+use Rattle.std.specs.Prelude.{IsSome, slice_index_or}
 use Rattle.heap_terms.specs.declared.answers.Answer.TheVariants as answers
-use Rattle.heap_terms.specs.declared.answers.Refusal.TheVariants.{OutOfRange}
 use Rattle.heap_terms.specs.declared.cells.Value.{Value}
 use Rattle.heap_terms.specs.declared.cells.Value.TheVariants as values
 use Rattle.heap_terms.specs.declared.commands.Command.{Command}
@@ -20,7 +17,7 @@ use Rattle.heap_terms.specs.declared.limits.TheConstants.{MOST_COMMANDS}
 use Rattle.heap_terms.specs.Cells.{cell_value, with_cell}
 use Rattle.heap_terms.specs.Heap.{NamedHeap, start, thread_at, object_at, zero_value}
 use Rattle.heap_terms.specs.Histories.{IsNext, after, advance, Lawful, LawfulFrom, thread_of}
-use Rattle.heap_terms.specs.Layout.{page_words, page_type_of, size_of}
+use Rattle.heap_terms.specs.Layout.{page_words, size_of}
 use Rattle.heap_terms.specs.Objects.{Object, Contents, kind_of, payload_of}
 use Rattle.heap_laws.specs.Plain.{IsPlainValue, IsPlainAnswer, IsPlain}
 use Rattle.heap_terms.specs.Outcome.{Outcome, done, answering}
@@ -117,9 +114,10 @@ event_plain p a e valid h calm next =
 
 events_plain : (p : Program) (a : NamedHeap) (h : List Event) → IsValid p → IsCounted p a → OweNothing a → LawfulFrom p a h → AllByRecursion IsPlain h
 events_plain p a [] valid counted calm lawful = tt
-events_plain p a (e ∷ es) valid counted calm lawful =
-    (event_plain p a e valid counted calm lawful.0,
-    events_plain p (after p a e) es valid (after-counted p valid a e lawful.0 counted) (after-owes p valid a e lawful.0 counted.formed calm) lawful.1)
+events_plain p a (e ∷ es) valid counted calm lawful = (
+  event_plain p a e valid counted calm lawful.0,
+  events_plain p (after p a e) es valid (after-counted p valid a e lawful.0 counted) (after-owes p valid a e lawful.0 counted.formed calm) lawful.1,
+)
 
 -- each event of a lawful history of a valid program is plain
 pub history_plain : (p : Program) (h : List Event) → IsValid p → Lawful p h → All IsPlain h

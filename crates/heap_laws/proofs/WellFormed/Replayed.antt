@@ -1,22 +1,20 @@
 -- Every lawful history of a valid program leaves a well-formed heap.
-use Rattle.std.proofs.Common.{◌≡◌, ℕ, ◌^◌, ◌<◌, ◌≤◌, List, [], length, Some, Bool, true, false, refl, arith}
-use Rattle.std.specs.Prelude.{slice_get}
+use Rattle.std.proofs.Common.{◌≡◌, ℕ, ◌^◌, ◌<◌, ◌≤◌, List, [], length, Bool, false, refl, arith}
 use Rattle.heap_terms.specs.declared.commands.Command.{Command}
 use Rattle.heap_terms.specs.declared.events.Event.{Event}
-use Rattle.heap_terms.specs.declared.kinds.Kind.{Kind}
 use Rattle.heap_terms.specs.declared.limits.TheConstants.{MOST_PAGES}
 use Rattle.heap_terms.specs.declared.programs.Program.{Program}
 use Rattle.heap_terms.specs.Heap.{NamedHeap, Thread, start, thread_at, with_thread}
-use Rattle.heap_terms.specs.Histories.{IsNext, after, Lawful, LawfulFrom, replay, replay_from, script_of}
+use Rattle.heap_terms.specs.Histories.{IsNext, after, Lawful, LawfulFrom, replay, replay_from}
 use Rattle.heap_terms.specs.Layout.{size_of}
 use Rattle.heap_terms.specs.Outcomes.{outcome_of}
-use Rattle.heap_terms.specs.Regions.{Make, wish_of, is_small, committed}
+use Rattle.heap_terms.specs.Regions.{committed}
 use Rattle.heap_terms.specs.Valid.{IsValid, IsInRange, is_gc}
 use Rattle.heap_terms.specs.WellFormed.{IsWellFormed}
 use Rattle.heap_laws.proofs.Events.Appending.{kept_by_events}
 use Rattle.heap_laws.proofs.Events.Causes.{by_events}
 use Rattle.heap_laws.proofs.Outcomes.Changes.{IsRewritten, by_outcome}
-use Rattle.heap_laws.proofs.Programs.BuiltCommands.{script_thread, script_command, only_cons_built}
+use Rattle.heap_laws.proofs.Programs.BuiltCommands.{script_thread, script_command}
 use Rattle.heap_laws.proofs.WellFormed.Committed.{committed-kept}
 use Rattle.heap_laws.proofs.WellFormed.FieldWritten.{written-kept, queued-kept}
 use Rattle.heap_laws.proofs.WellFormed.LivingValues.{AreBelow-nil}
