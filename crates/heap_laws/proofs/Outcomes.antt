@@ -2,4 +2,5 @@
 pub mod Parts
 pub mod WordBounds
 pub mod PairLists
+pub mod Table
 pub mod Changes

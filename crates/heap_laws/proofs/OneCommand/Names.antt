@@ -1,21 +1,61 @@
 -- The names that a history gives are 0, 1, 2 and so on.
-use Rattle.std.proofs.Common.{◌≡◌, ℕ, ◌+◌, List, [], ◌∷◌, length, Some, None, ◌⊎◌, inl, inr, refl, sym, ◌∙◌, ap, arith}
+use Rattle.std.proofs.Common.{◌≡◌, ℕ, ◌+◌, List, [], ◌∷◌, ◌++◌, length, Some, None, Bool, true, false, ◌⊎◌, inl, inr, refl, sym, ◌∙◌, ap, arith, cond}
 use Rattle.std.proofs.lemmas.List.{length_push}
 use Rattle.std.specs.List.{range_with_len}
+use Rattle.heap_terms.specs.declared.answers.Answer.{Answer}
+use Rattle.heap_terms.specs.declared.answers.Answer.TheVariants as answers
+use Rattle.heap_terms.specs.declared.cells.Value.TheVariants as values
+use Rattle.heap_terms.specs.declared.commands.Command.{Command}
 use Rattle.heap_terms.specs.declared.events.Event.{Event}
+use Rattle.heap_terms.specs.declared.kinds.Kind.{Kind}
 use Rattle.heap_terms.specs.declared.programs.Program.{Program}
-use Rattle.heap_terms.specs.Heap.{NamedHeap, start}
+use Rattle.heap_terms.specs.Heap.{NamedHeap, start, thread_at, with_thread}
 use Rattle.heap_terms.specs.Histories.{IsNext, after, Lawful, LawfulFrom, replay, replay_from}
 use Rattle.heap_terms.specs.Layout.{size_of}
-use Rattle.heap_terms.specs.Regions.{place_for}
+use Rattle.heap_terms.specs.Objects.{Object}
+use Rattle.heap_terms.specs.Regions.{committed, counting, triggers, run_used, pages_after, place_for, with_destination, destination_of, initial_contents}
+use Rattle.heap_terms.specs.Outcomes.{outcome_of}
 use Rattle.heap_laws.specs.CommandLaws.{name_in, name_in_answer, names_of}
 use Rattle.heap_laws.proofs.Events.Causes.{by_events}
+use Rattle.heap_laws.proofs.Events.OwnThread.{with_destination-objects}
 use Rattle.heap_laws.proofs.Events.CollectedThreads.{collected_threads}
-use Rattle.heap_laws.proofs.Events.OwnThread.{built_heap}
-use Rattle.heap_laws.proofs.OneCommand.Outcome.{outcome_tame}
+use Rattle.heap_laws.proofs.Outcomes.Table.{row}
 use Rattle.heap_laws.proofs.Ranges.ObjectCount.{start_empty}
 use Rattle.heap_laws.proofs.Ranges.OnlyConses.{opened-objects}
-use Rattle.heap_laws.proofs.WellFormed.Committed.{new_object}
+
+-- counting changes no object
+counting-objects : (p : Program) (b : NamedHeap) (t size : ℕ) → (counting p b t size).objects ≡ b.objects
+counting-objects p b t size = at (triggers p b size) _ _ refl refl
+  where
+    at : (f : Bool) (x y : NamedHeap) → x.objects ≡ b.objects → y.objects ≡ b.objects → (cond f x y).objects ≡ b.objects
+    at true x y h k = h
+    at false x y h k = k
+
+committed-length : (p : Program) (a : NamedHeap) (t : ℕ) (c : Command) (kind : Kind) (n : ℕ) → length (committed p a t c kind n).objects ≡ length a.objects + 1
+unfolding committed
+committed-length p a t c kind n =
+    let size = size_of kind n in
+    let object : Object = record { generation = 0; place = place_for a t kind size; contents = initial_contents a t c } in
+    let placed = record (with_thread a t (run_used (thread_at a t) size)) { objects = a.objects ++ Some object ∷ []; pages = pages_after a t kind size } in
+    ap length (counting-objects p (with_destination placed t (destination_of c) (values.Ref (length a.objects))) t size
+    ∙ with_destination-objects placed t (destination_of c) (values.Ref (length a.objects)))
+    ∙ length_push a.objects (Some object)
+
+no_name : (answer : Answer) → ((name index : ℕ) → answer ≡ answers.Placed name index → ⊥) → name_in_answer answer ≡ None
+no_name (answers.Placed name index) never = absurd (never name index refl)
+no_name answers.Done never = refl
+no_name (answers.Val v) never = refl
+no_name (answers.Word w) never = refl
+no_name answers.Yes never = refl
+no_name answers.No never = refl
+no_name answers.Absent never = refl
+no_name (answers.Live v) never = refl
+no_name answers.Broken never = refl
+no_name (answers.Count n) never = refl
+no_name (answers.Ran ids) never = refl
+no_name (answers.Page view) never = refl
+no_name (answers.Stat allocated cum num) never = refl
+no_name (answers.Refused why) never = refl
 
 -- an event gives no name, or the next one
 abbrev Gives : NamedHeap → Event → NamedHeap → Type 0
@@ -23,14 +63,9 @@ Gives a e b = ((name_in e ≡ None) × (length b.objects ≡ length a.objects)) 
 
 gives : (p : Program) (a : NamedHeap) (e : Event) → IsNext p a e → Gives a e (after p a e)
 gives p a e next = by_events p a (λ e b. Gives a e b)
-    (λ t c answer d.
-    let tame = outcome_tame a t c in
-    inl (ap name_in_answer d.answered ∙ tame.nameless, tame.names))
+    (λ t c answer d. inl (ap name_in_answer d.answered ∙ no_name (outcome_of a t c).answer (row a t c).nameless, (row a t c).names))
     (λ t c answer d. inl (ap name_in_answer d.answered, refl))
-    (λ t c answer kind n seed d. inr (
-      ap name_in_answer d.answered,
-      ap length (built_heap p a t c kind n).objects ∙ length_push a.objects (Some (new_object a t c (place_for a t kind (size_of kind n)))),
-    ))
+    (λ t c answer kind n seed d. inr (ap name_in_answer d.answered, committed-length p a t c kind n))
     (λ t ty first k d. inl (refl, ap length (opened-objects a t ty first k)))
     (λ t last passes d. inl (refl, (collected_threads a t last passes).objects))
     (λ t d. inl (refl, refl))
