@@ -18,8 +18,8 @@ use Rattle.heap_terms.specs.Cells.{cell_value}
 use Rattle.heap_terms.specs.Heap.{NamedHeap, object_at, thread_at}
 use Rattle.heap_terms.specs.Histories.{IsNext, after, advance, Lawful, replay}
 use Rattle.heap_terms.specs.Objects.{Object, ConsOf, kind_of}
-use Rattle.heap_terms.specs.Schedules.{IsRun}
 use Rattle.heap_terms.specs.Referents.{fields_at}
+use Rattle.heap_terms.specs.Schedules.{IsRun}
 use Rattle.heap_terms.specs.Text.{journal_text}
 use Rattle.heap_terms.specs.Valid.{IsValid}
 use Rattle.heap_laws.specs.Order.{orders_of}
