@@ -6,7 +6,7 @@ use Rattle.heap_terms.specs.declared.kinds.Kind.TheVariants as kinds
 use Rattle.heap_terms.specs.Fresh.{fresh_contents, IsBuildable}
 use Rattle.heap_terms.specs.Heap.{zero_value}
 use Rattle.heap_terms.specs.Layout.{size_with_header}
-use Rattle.heap_terms.specs.Words.{word_of, with_header, spelling}
+use Rattle.heap_terms.specs.Spelling.{word_of, with_header, spelling}
 
 map-replicate : {A B : Type 0} (f : A → B) (n : ℕ) (x : A) → map f (replicate n x) ≡ replicate n (f x)
 map-replicate f zero x = refl

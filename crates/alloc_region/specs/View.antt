@@ -2,6 +2,7 @@
 use Rattle.std.specs.Prelude.{ℕ, ◌+◌, ◌*◌, ◌≤◌, List, [], length, min}
 use Rattle.heap_terms.specs.declared.kinds.PageType.{PageType}
 use Rattle.heap_terms.specs.declared.kinds.PageType.TheVariants as types
+use Rattle.heap_terms.specs.declared.limits.TheConstants.{MOST_PAGES}
 use Rattle.heap_terms.specs.Layout.{page_words}
 
 -- the words that were built in a buffer, and how many it has room for
@@ -36,7 +37,7 @@ largest_object types.Unboxed pages = min (page_words * pages) 65536
 -- a region lies in a space, and what is accepted and built lies in the region
 pub record IsSound (ty : PageType) (first pages next : ℕ) (buffer : BufferView) : Type 0 where
   pub least : 1 ≤ pages
-  pub most : first + pages ≤ 1024
+  pub most : first + pages ≤ MOST_PAGES
   pub begun : page_words * first ≤ next
   pub ends : next + length buffer.built ≤ page_words * (first + pages)
   pub roomy : largest_object ty pages ≤ buffer.room

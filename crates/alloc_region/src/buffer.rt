@@ -4,7 +4,7 @@ ghost use Rattle.std.specs.Prelude.{◌≡◌, ◌≢◌, ◌+◌, ◌<◌, ◌�
 ghost use Rattle.heap_terms.specs.declared.kinds.Kind.TheVariants as kinds;
 ghost use Rattle.heap_terms.specs.Fresh.{fresh_contents, IsBuildable};
 ghost use Rattle.heap_terms.specs.Layout as layout;
-ghost use Rattle.heap_terms.specs.Words.{spelling, with_header};
+ghost use Rattle.heap_terms.specs.Spelling.{spelling, with_header};
 
 use heap_terms::{Kind, Memory};
 use lisp_words::header;

@@ -1,10 +1,11 @@
 //! A region.
 
 ghost use Rattle.std.specs.Prelude.{◌≡◌, ◌+◌, ◌*◌, ◌<◌, ◌≤◌, [], length, IfOk};
+ghost use Rattle.heap_terms.specs.declared.limits.TheConstants.{MOST_PAGES};
 ghost use Rattle.heap_terms.specs.Fresh.{fresh_contents, IsBuildable};
 ghost use Rattle.heap_terms.specs.Layout.{page_words, page_type_of};
 ghost use Rattle.heap_terms.specs.Layout as layout;
-ghost use Rattle.heap_terms.specs.Words.{spelling};
+ghost use Rattle.heap_terms.specs.Spelling.{spelling};
 ghost use Rattle.alloc_region.specs.View.{opened_region, end_of, largest_object};
 
 use crate::buffer::Buffer;
@@ -52,7 +53,7 @@ impl Region {
     /// object that fits into it, and is refused only for want of memory.
     pub fn open(alloc: Global, ty: PageType, first: u32, pages: u32) -> Result<Region, Memory>
         requires least { 1 ≤ pages }
-        requires most { first + pages ≤ 1024 }
+        requires most { first + pages ≤ MOST_PAGES }
         ensures { IfOk result (λ region. region ≡ opened_region ty first pages) }
     {
         let buffer = Buffer::new(alloc, largest_object(ty, pages) as usize)?;
@@ -83,7 +84,7 @@ impl Region {
     pub fn pages(&self) -> u32
         ensures value { result ≡ self.now.pages }
         ensures least { 1 ≤ result }
-        ensures most { self.now.first + result ≤ 1024 }
+        ensures most { self.now.first + result ≤ MOST_PAGES }
     {
         self.pages
     }
@@ -152,7 +153,7 @@ impl Region {
 
 /// How many words the largest object has that a region can hold.
 fn largest_object(ty: PageType, pages: u32) -> u32
-    requires { pages ≤ 1024 }
+    requires { pages ≤ MOST_PAGES }
     ensures { result ≡ largest_object ty pages }
 {
     match ty {

@@ -3,6 +3,12 @@
 use Rattle.std.specs.Prelude.{◌≡◌, ℕ, ◌+◌, ◌-◌, ◌^◌, ◌<◌, ◌≤◌, ◌⊎◌, min, List, [], ◌++◌, length, Some}
 use Rattle.std.specs.declared.option.Option.{Option}
 
+-- What contracts see of a stream: its contents, where it tells them, and how often it has failed. The contents of a
+-- source are the bytes that were not yet taken, those of a sink the bytes that were appended so far.
+pub record Stream : Type 0 where
+  pub contents : Option (List ℕ)
+  pub faults : ℕ
+
 -- one more, or the same at the last number of a u64
 abbrev pub next_count : ℕ → ℕ
 next_count n = min (n + 1) (2 ^ 64 - 1)

@@ -1,9 +1,10 @@
 //! Reading and writing bytes: the traits of a source and of a sink, two of each, and the two loops.
 //!
-//! The layer above learns: `read_all` answers all bytes up to the end of the input, or a fault that the
-//! source counted; `write_all` appends all bytes, or stops at a prefix, and the sink counted why. A source
-//! or a sink in memory tells its bytes, and its failing calls are listed beforehand. A real stream tells
-//! nothing, and its adapters (`StdSource`, `StdSink`) are trusted to pass on what the system does.
+//! The layer above learns: `read_all` answers all bytes up to the end of the input, or a fault that
+//! the source counted; `write_all` appends all bytes, or stops at a prefix, and the sink counted
+//! why. A source or a sink in memory tells its bytes, and its failing calls are listed beforehand.
+//! A real stream tells nothing, and its adapters (`StdSource`, `StdSink`) are trusted to pass on
+//! what the system does.
 #![tactic(auto)]
 
 mod memory_sink;

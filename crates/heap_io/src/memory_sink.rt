@@ -1,4 +1,5 @@
-// A sink in memory, whose failing calls are listed beforehand.
+//! A sink in memory, whose failing calls are listed beforehand.
+
 ghost use Rattle.std.specs.Prelude.{◌≡◌, ◌≤◌, ◌<◌, ◌+◌, ◌++◌, ◌↔◌, [], Some, length, take, vec_len, vec_capacity, IfOk, OnErr, IsErr};
 ghost use Rattle.heap_io.specs.Streams.{Rose, Grew};
 ghost use Rattle.heap_io.specs.Memory.{appended, sink_after, sink_failed, SinkFails};
@@ -8,9 +9,9 @@ use crate::{Failed, NoRoom, Sink};
 use std::alloc::Global;
 use std::marker::Model;
 
-/// A sink that keeps its bytes in memory, at most `size` of them. A call fails exactly where its number,
-/// from 0, stands in a list, or where the sink is full, and another call appends as many bytes as it can,
-/// at most `most`.
+/// A sink that keeps its bytes in memory, at most `size` of them. A call fails exactly where its
+/// number, from 0, stands in a list, or where the sink is full, and another call appends as many
+/// bytes as it can, at most `most`.
 #[derive(Drop)]
 pub struct MemorySink {
     bytes: Vec<u8>,
@@ -40,8 +41,9 @@ impl Model for MemorySink {
 }
 
 impl MemorySink {
-    /// An empty sink with room for `size` bytes that appends at most `most` bytes in a call, and fails the
-    /// calls whose numbers stand in `fails`. It reserves the room here: its calls take no memory.
+    /// An empty sink with room for `size` bytes that appends at most `most` bytes in a call, and
+    /// fails the calls whose numbers stand in `fails`. It reserves the room here: its calls take no
+    /// memory.
     pub fn new(alloc: Global, most: u64, size: u64, fails: Vec<u64>) -> Result<MemorySink, NoRoom>
         requires { 1 ≤ most }
         ensures { IfOk result (λ sink. sink ≡ record {
@@ -73,9 +75,7 @@ impl MemorySink {
 }
 
 impl Sink for MemorySink {
-    ghost contents = { λ s. Some s.bytes };
-
-    ghost faults = { λ s. s.faults };
+    ghost state = { λ s. record { contents = Some s.bytes; faults = s.faults } };
 
     fn put(&mut self, piece: &[u8]) -> Result<usize, Failed>
         requires { 0 < length piece.now }
@@ -106,7 +106,7 @@ impl Sink for MemorySink {
     }
 }
 
-// Appends the piece to bytes that have room for it.
+/// Appends the piece to bytes that have room for it.
 fn append(bytes: &mut Vec<u8>, piece: &[u8])
     requires { vec_len bytes.old + length piece.now ≤ vec_capacity bytes.old }
     ensures items { bytes.new.items ≡ bytes.old.items ++ piece.now }

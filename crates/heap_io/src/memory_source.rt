@@ -1,4 +1,5 @@
-// A source in memory, whose failing calls are listed beforehand.
+//! A source in memory, whose failing calls are listed beforehand.
+
 ghost use Rattle.std.specs.Prelude.{◌≡◌, ◌≤◌, ◌<◌, ◌++◌, ◌↔◌, min, ℕ, List, [], Some, length, take, drop, IfOk, OnErr, IsErr, Contains};
 ghost use Rattle.heap_io.specs.Streams.{Rose, Gave};
 ghost use Rattle.heap_io.specs.Memory.{passed, source_after, source_failed};
@@ -6,8 +7,8 @@ ghost use Rattle.heap_io.specs.Memory.{passed, source_after, source_failed};
 use crate::{Failed, Source};
 use std::marker::Model;
 
-/// A source over bytes in memory. A call fails exactly where its number, from 0, stands in a list, and
-/// another call passes as many bytes as it can, at most `most`.
+/// A source over bytes in memory. A call fails exactly where its number, from 0, stands in a list,
+/// and another call passes as many bytes as it can, at most `most`.
 #[derive(Drop)]
 pub struct MemorySource {
     bytes: Vec<u8>,
@@ -36,8 +37,8 @@ impl Model for MemorySource {
 }
 
 impl MemorySource {
-    /// A source of these bytes that passes at most `most` bytes in a call, and fails the calls whose
-    /// numbers stand in `fails`. It takes no memory.
+    /// A source of these bytes that passes at most `most` bytes in a call, and fails the calls
+    /// whose numbers stand in `fails`. It takes no memory.
     pub fn new(bytes: Vec<u8>, most: u64, fails: Vec<u64>) -> MemorySource
         requires { 1 ≤ most }
         ensures { result ≡
@@ -55,9 +56,7 @@ impl MemorySource {
 }
 
 impl Source for MemorySource {
-    ghost contents = { λ s. Some s.left };
-
-    ghost faults = { λ s. s.faults };
+    ghost state = { λ s. record { contents = Some s.left; faults = s.faults } };
 
     fn take(&mut self, buf: &mut [u8]) -> Result<usize, Failed>
         requires { 0 < length buf.old }
@@ -70,7 +69,8 @@ impl Source for MemorySource {
         ensures kept { OnErr result (Some self.new.left ≡ Some self.old.left) }
         ensures counted { self.old.faults ≤ self.new.faults }
 
-        // Exactly which calls fail, how many bytes the others pass, and what stands in the buffer then.
+        // Exactly which calls fail, how many bytes the others pass, and what stands in the buffer
+        // then.
         ensures fails { IsErr result ↔ Contains self.old.fails self.old.call }
         ensures count { IfOk result (λ k. k ≡ passed self.old (length buf.old)) }
         ensures after { IfOk result (λ k. self.new ≡ source_after self.old k) }
@@ -90,7 +90,8 @@ impl Source for MemorySource {
     }
 }
 
-// Copies the front of the bytes to the front of the buffer, at most `most` of them, and answers how many.
+/// Copies the front of the bytes to the front of the buffer, at most `most` of them, and answers
+/// how many.
 fn copy_front(most: u64, left: &[u8], buf: &mut [u8]) -> usize
     ensures count { result ≡ min most (min (length buf.old) (length left.now)) }
     ensures buffer { buf.new ≡ take result left.now ++ drop result buf.old }
@@ -100,7 +101,7 @@ fn copy_front(most: u64, left: &[u8], buf: &mut [u8]) -> usize
     k
 }
 
-// The least of the three.
+/// The least of the three.
 pub(crate) fn least(most: u64, room: usize, left: usize) -> usize
     ensures { result ≡ min most (min room left) }
 {

@@ -1,4 +1,6 @@
-// Adapters over the system's streams. What the system reads and writes is trusted: no clause can say it.
+//! Adapters over the system's streams. What the system reads and writes is trusted: no clause can
+//! say it.
+
 ghost use Rattle.std.specs.Prelude.{◌≡◌, ◌≤◌, ◌<◌, None, length, take, IfOk, OnOk, OnErr};
 ghost use Rattle.std.specs.Io.KnownBytes.{Consumes, Appends, IsAtEnd};
 ghost use Rattle.heap_io.specs.Streams.{Rose, next_count};
@@ -6,7 +8,8 @@ ghost use Rattle.heap_io.specs.Streams.{Rose, next_count};
 use crate::{Failed, Sink, Source};
 use std::io::{Read, Write};
 
-/// A source over a reader, as `StdSource::new(rt.stdin())`. It tells no contents, and counts each error.
+/// A source over a reader, as `StdSource::new(rt.stdin())`. It tells no contents, and counts each
+/// error.
 #[derive(Drop)]
 pub struct StdSource<R> {
     /// What it reads from.
@@ -25,9 +28,7 @@ impl<R: Read> StdSource<R> {
 }
 
 impl<R: Read> Source for StdSource<R> {
-    ghost contents = { λ _. None };
-
-    ghost faults = { λ s. s.faults };
+    ghost state = { λ s. record { contents = None; faults = s.faults } };
 
     fn take(&mut self, buf: &mut [u8]) -> Result<usize, Failed>
         requires { 0 < length buf.old }
@@ -52,8 +53,8 @@ impl<R: Read> Source for StdSource<R> {
     }
 }
 
-/// A sink over a writer, as `StdSink::new(rt.stdout())`. It tells no contents, and counts each error
-/// and each call that takes nothing.
+/// A sink over a writer, as `StdSink::new(rt.stdout())`. It tells no contents, and counts each
+/// error and each call that takes nothing.
 #[derive(Drop)]
 pub struct StdSink<W> {
     /// What it writes to.
@@ -72,9 +73,7 @@ impl<W: Write> StdSink<W> {
 }
 
 impl<W: Write> Sink for StdSink<W> {
-    ghost contents = { λ _. None };
-
-    ghost faults = { λ s. s.faults };
+    ghost state = { λ s. record { contents = None; faults = s.faults } };
 
     fn put(&mut self, piece: &[u8]) -> Result<usize, Failed>
         requires { 0 < length piece.now }
@@ -83,7 +82,8 @@ impl<W: Write> Sink for StdSink<W> {
         ensures failed { OnErr result (Rose self.old.faults self.new.faults) }
         ensures counted { self.old.faults ≤ self.new.faults }
 
-        // It passes on what the writer takes, and counts each error and each call that takes nothing once.
+        // It passes on what the writer takes, and counts each error and each call that takes
+        // nothing once.
         ensures passed { IfOk result (λ k.
             Appends (W.contents self.old.writer) (W.contents self.new.writer) (take k piece.now)) }
         ensures counts { OnErr result (self.new.faults ≡ next_count self.old.faults) }

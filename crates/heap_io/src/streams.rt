@@ -1,6 +1,7 @@
-// The two traits and their errors.
-ghost use Rattle.std.specs.Prelude.{⊤, ◌≡◌, ◌≤◌, ◌<◌, ◌↔◌, ℕ, List, [], Option, Some, length, take, IfOk, OnErr};
-ghost use Rattle.heap_io.specs.Streams.{Rose, Gave, Grew};
+//! The two traits and their errors.
+
+ghost use Rattle.std.specs.Prelude.{⊤, ◌≡◌, ◌≤◌, ◌<◌, ◌↔◌, ℕ, List, [], Some, length, take, IfOk, OnErr};
+ghost use Rattle.heap_io.specs.Streams.{Stream, Rose, Gave, Grew};
 
 use std::alloc::AllocError;
 use thiserror::Error;
@@ -25,43 +26,40 @@ impl From<AllocError> for NoRoom {
 
 /// Where bytes come from.
 pub trait Source {
-    /// The bytes that were not yet taken, where the source tells them. A real stream tells nothing.
-    ghost contents: { Self → Option (List ℕ) };
+    /// The bytes that were not yet taken, where the source tells them, and how often it has failed:
+    /// a `u64` that never falls, and stands still at its last number. A real stream tells no bytes.
+    ghost state: { Self → Stream };
 
-    /// How often it has failed: a `u64` that never falls, and stands still at its last number.
-    ghost faults: { Self → ℕ };
-
-    /// Puts the next bytes of the input at the front of the buffer and answers how many, at least one
-    /// unless the input has ended. What stands behind them in the buffer is open, and so is the buffer
-    /// after a failure. A failure takes nothing.
+    /// Puts the next bytes of the input at the front of the buffer and answers how many, at least
+    /// one unless the input has ended. What stands behind them in the buffer is open, and so is the
+    /// buffer after a failure. A failure takes nothing.
     fn take(&mut self, buf: &mut [u8]) -> Result<usize, Failed>
         requires { 0 < length buf.old }
         ensures bound { IfOk result (λ k. k ≤ length buf.new) }
         ensures taken { IfOk result (λ k.
-            Gave (contents self.old) (contents self.new) (take k buf.new)) }
+            Gave (state self.old).contents (state self.new).contents (take k buf.new)) }
         ensures end { IfOk result (λ k.
-            (xs : List ℕ) → contents self.old ≡ Some xs → (k ≡ 0) ↔ (xs ≡ [])) }
-        ensures failed { OnErr result (Rose (faults self.old) (faults self.new)) }
-        ensures kept { OnErr result (contents self.new ≡ contents self.old) }
-        ensures counted { faults self.old ≤ faults self.new };
+            (xs : List ℕ) → (state self.old).contents ≡ Some xs → (k ≡ 0) ↔ (xs ≡ [])) }
+        ensures failed { OnErr result (Rose (state self.old).faults (state self.new).faults) }
+        ensures kept { OnErr result ((state self.new).contents ≡ (state self.old).contents) }
+        ensures counted { (state self.old).faults ≤ (state self.new).faults };
 }
 
 /// Where bytes go.
 pub trait Sink {
-    /// The bytes that were appended so far, where the sink tells them. A real stream tells nothing.
-    ghost contents: { Self → Option (List ℕ) };
+    /// The bytes that were appended so far, where the sink tells them, and how often it has failed:
+    /// a `u64` that never falls, and stands still at its last number. A real stream tells no bytes.
+    ghost state: { Self → Stream };
 
-    /// How often it has failed: a `u64` that never falls, and stands still at its last number.
-    ghost faults: { Self → ℕ };
-
-    /// Appends the front of the piece and answers how many bytes, at least one. A failure appends nothing.
+    /// Appends the front of the piece and answers how many bytes, at least one. A failure appends
+    /// nothing.
     fn put(&mut self, piece: &[u8]) -> Result<usize, Failed>
         requires { 0 < length piece.now }
         ensures some { IfOk result (λ k. 0 < k) }
         ensures bound { IfOk result (λ k. k ≤ length piece.now) }
         ensures appended { IfOk result (λ k.
-            Grew (contents self.old) (contents self.new) (take k piece.now)) }
-        ensures failed { OnErr result (Rose (faults self.old) (faults self.new)) }
-        ensures kept { OnErr result (contents self.new ≡ contents self.old) }
-        ensures counted { faults self.old ≤ faults self.new };
+            Grew (state self.old).contents (state self.new).contents (take k piece.now)) }
+        ensures failed { OnErr result (Rose (state self.old).faults (state self.new).faults) }
+        ensures kept { OnErr result ((state self.new).contents ≡ (state self.old).contents) }
+        ensures counted { (state self.old).faults ≤ (state self.new).faults };
 }

@@ -1,4 +1,5 @@
-// Small runs of the loops over streams in memory, and of the adapters over readers and writers.
+//! Small runs of the loops over streams in memory, and of the adapters over readers and writers.
+
 ghost use Rattle.std.specs.Prelude.{◌≤◌};
 
 use crate::{
@@ -10,7 +11,7 @@ use std::test::Fail;
 
 const TEXT: &[u8] = b"0 fix s0 5\n0 show s0 5\n";
 
-// A source of the text whose listed calls fail.
+/// A source of the text whose listed calls fail.
 fn source(alloc: Global, most: u64, fails: &[u64]) -> Result<MemorySource, AllocError>
     requires { 1 ≤ most }
 {
@@ -53,7 +54,7 @@ fn the_limit_may_be_met_and_not_passed(rt: HostRuntime) -> Result<(), Fail> {
     Ok(())
 }
 
-// A sink of that size, 10 bytes a call, whose listed calls fail.
+/// A sink of that size, 10 bytes a call, whose listed calls fail.
 fn sink(alloc: Global, size: u64, fails: &[u64]) -> Result<MemorySink, NoRoom> {
     MemorySink::new(alloc, 10, size, Vec::from_slice(alloc, fails)?)
 }

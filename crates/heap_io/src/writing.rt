@@ -1,4 +1,5 @@
-// Writing bytes to a sink.
+//! Writing bytes to a sink.
+
 ghost use Rattle.std.specs.Prelude.{◌≡◌, ◌≤◌, ◌<◌, [], length, take, IfErr, OnErr, OnOk, IsOk};
 ghost use Rattle.heap_io.specs.Streams.{Rose, Grew};
 
@@ -16,12 +17,12 @@ pub struct Stopped {
 /// Appends all the bytes, in as many calls as the sink needs. It takes no memory.
 /// Where there are none it makes no call.
 pub fn write_all<K: Sink>(sink: &mut K, bytes: &[u8]) -> Result<(), Stopped>
-    ensures whole { OnOk result (Grew (K.contents sink.old) (K.contents sink.new) bytes.now) }
+    ensures whole { OnOk result (Grew (K.state sink.old).contents (K.state sink.new).contents bytes.now) }
     ensures front { IfErr result (λ stopped.
-        Grew (K.contents sink.old) (K.contents sink.new) (take stopped.written bytes.now)) }
+        Grew (K.state sink.old).contents (K.state sink.new).contents (take stopped.written bytes.now)) }
     ensures proper { IfErr result (λ stopped. stopped.written < length bytes.now) }
-    ensures failed { OnErr result (Rose (K.faults sink.old) (K.faults sink.new)) }
-    ensures counted { K.faults sink.old ≤ K.faults sink.new }
+    ensures failed { OnErr result (Rose (K.state sink.old).faults (K.state sink.new).faults) }
+    ensures counted { (K.state sink.old).faults ≤ (K.state sink.new).faults }
     ensures nothing { bytes.now ≡ [] → IsOk result × (sink.new ≡ sink.old) }
 {
     let mut written = 0;

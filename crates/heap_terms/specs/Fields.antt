@@ -12,6 +12,7 @@ use Rattle.heap_terms.specs.declared.faults.Why.{Why}
 use Rattle.heap_terms.specs.declared.faults.Why.TheVariants.{Form, Range}
 use Rattle.heap_terms.specs.declared.kinds.Weakness.{Weakness}
 use Rattle.heap_terms.specs.declared.kinds.Weakness.TheVariants as weaknesses
+use Rattle.heap_terms.specs.declared.limits.TheConstants.{CELLS, RAW_CELLS, LEAST_AUTO, MOST_AUTO, MOST_TURNS_IN_A_ROW}
 
 -- what follows where reading did not fail
 infixl 10 ◌>>=◌
@@ -28,8 +29,8 @@ has_bytes [] = false
 has_bytes (b ∷ bs) = true
 
 -- the fields of a line: what stands between blanks
-unfoldable pub fields_of : List ℕ → List (List ℕ)
-fields_of line = filter has_bytes (slice_split is_blank line)
+unfoldable pub fields_in : List ℕ → List (List ℕ)
+fields_in line = filter has_bytes (slice_split is_blank line)
 
 -- so many digits in a base, from 1 to the most
 abbrev pub is_numeral : ℕ → ℕ → List ℕ → Bool
@@ -57,18 +58,18 @@ cell_number limit digits =
 unfoldable pub cell_of : List ℕ → Option Cell
 cell_of [] = None
 cell_of (b ∷ digits) =
-    if b == 115 then option_map Stack (cell_number 16 digits)
-    else if b == 98 then option_map Exact (cell_number 16 digits)
-    else if b == 103 then option_map Shared (cell_number 16 digits)
+    if b == 115 then option_map Stack (cell_number CELLS digits)
+    else if b == 98 then option_map Exact (cell_number CELLS digits)
+    else if b == 103 then option_map Shared (cell_number CELLS digits)
     else None
 
 -- a raw cell: `r` and a number from 0 to 7
 unfoldable pub raw_cell_of : List ℕ → Option Raw
 raw_cell_of [] = None
-raw_cell_of (b ∷ digits) = if b == 114 then option_map (λ n. record { 0 = n }) (cell_number 8 digits) else None
+raw_cell_of (b ∷ digits) = if b == 114 then option_map (λ n. record { 0 = n }) (cell_number RAW_CELLS digits) else None
 
-unfoldable pub weakness_of : List ℕ → Option Weakness
-weakness_of field =
+unfoldable pub weakness_named : List ℕ → Option Weakness
+weakness_named field =
     if bytes_eq field (codes "strong") then Some weaknesses.Strong
     else if bytes_eq field (codes "key") then Some weaknesses.Key
     else if bytes_eq field (codes "value") then Some weaknesses.Value
@@ -101,7 +102,7 @@ is_i64 (negsuc n) = nat_lt n (2 ^ 63)
 
 -- so many words between two collections, or 0 for none
 abbrev pub is_auto : ℕ → Bool
-is_auto n = n == 0 || between 512 524288 n
+is_auto n = n == 0 || between LEAST_AUTO MOST_AUTO n
 
 -- A field of a schedule is a thread's number, or that, `*` and how many turns in a row it has, from 1 to 65,535.
 -- The form of both numbers is judged before the range of either.
@@ -109,8 +110,9 @@ abbrev pub turns_of_parts : ℕ → List (List ℕ) → Result (List ℕ) Why
 turns_of_parts threads (thread ∷ []) = ranged (λ t. nat_lt t threads) (number_of thread) >>= λ t. Ok (t ∷ [])
 turns_of_parts threads (thread ∷ count ∷ []) =
     ok_or (number_of thread) Form >>= λ t. ok_or (number_of count) Form >>= λ k.
-    if nat_lt t threads && between 1 65535 k then Ok (replicate k t) else Err Range
-turns_of_parts threads _ = Err Form
+    if nat_lt t threads && between 1 MOST_TURNS_IN_A_ROW k then Ok (replicate k t) else Err Range
+turns_of_parts threads [] = Err Form
+turns_of_parts threads (thread ∷ count ∷ more ∷ parts) = Err Form
 
 unfoldable pub turns_of : ℕ → List ℕ → Result (List ℕ) Why
 turns_of threads field = turns_of_parts threads (slice_split (λ b. b == 42) field)

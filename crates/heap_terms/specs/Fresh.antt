@@ -5,6 +5,7 @@ use Rattle.heap_terms.specs.declared.kinds.Kind.{Kind}
 use Rattle.heap_terms.specs.declared.kinds.Kind.TheVariants as kinds
 use Rattle.heap_terms.specs.declared.kinds.Weakness.{Weakness}
 use Rattle.heap_terms.specs.declared.kinds.Weakness.TheVariants as weaknesses
+use Rattle.heap_terms.specs.declared.limits.TheConstants.{MOST_ELEMENTS, MOST_PAIRS}
 use Rattle.heap_terms.specs.Heap.{zero_value}
 use Rattle.heap_terms.specs.Objects.{Contents, ConsOf, VectorOf, InstanceOf, ClosureOf, WordsOf, WeakTo, TableOf}
 
@@ -31,9 +32,9 @@ fresh_contents kinds.Table n seed = TableOf (weakness_of seed) ((n - 3) / 4) []
 -- a table of B pairs with one of the five weaknesses, up to 65,535 for the others; a seed only where one is read
 abbrev pub IsBuildable : Kind → ℕ → ℕ → Type 0
 IsBuildable kinds.Cons n seed = (n ≡ 2) × (seed ≡ 0)
-IsBuildable kinds.Vector n seed = (n ≤ 65535) × (seed ≡ 0)
-IsBuildable kinds.Instance n seed = (n ≤ 65535) × (seed ≡ 0)
-IsBuildable kinds.Closure n seed = (n ≤ 65535) × (seed ≡ 0)
-IsBuildable kinds.Words n seed = n ≤ 65535
+IsBuildable kinds.Vector n seed = (n ≤ MOST_ELEMENTS) × (seed ≡ 0)
+IsBuildable kinds.Instance n seed = (n ≤ MOST_ELEMENTS) × (seed ≡ 0)
+IsBuildable kinds.Closure n seed = (n ≤ MOST_ELEMENTS) × (seed ≡ 0)
+IsBuildable kinds.Words n seed = n ≤ MOST_ELEMENTS
 IsBuildable kinds.Weak n seed = (n ≡ 1) × (seed ≡ 0)
-IsBuildable kinds.Table n seed = (b : ℕ) × (1 ≤ b) × (b ≤ 64) × (n ≡ 3 + 4 * b) × (seed ≤ 4)
+IsBuildable kinds.Table n seed = (b : ℕ) × (1 ≤ b) × (b ≤ MOST_PAIRS) × (n ≡ 3 + 4 * b) × (seed ≤ 4)

@@ -1,16 +1,15 @@
 -- The lines of a script as a table: for each word the forms of the fields after it, and what the line says.
 -- A row may stand here before its word is built; the list of built words decides which lines are read.
-use Rattle.std.specs.Prelude.{ℕ, ℤ, pos, Bool, List, [], ◌∷◌, ◌++◌, length, Option, Some, None, ok_or, Result, Ok, Err, if◌then◌else◌, ◌==◌, bytes_eq, codes, slice_index_or, find}
+use Rattle.std.specs.Prelude.{ℕ, ℤ, Bool, List, [], ◌∷◌, ◌++◌, length, Option, Some, None, ok_or, Result, Ok, Err, if◌then◌else◌, ◌==◌, bytes_eq, codes, find}
 use Rattle.heap_terms.specs.declared.cells.Cell.{Cell}
-use Rattle.heap_terms.specs.declared.cells.Cell.TheVariants.{Stack}
 use Rattle.heap_terms.specs.declared.cells.Raw.{Raw}
 use Rattle.heap_terms.specs.declared.commands.Command.{Command}
 use Rattle.heap_terms.specs.declared.commands.Command.TheVariants as commands
 use Rattle.heap_terms.specs.declared.faults.Why.{Why}
 use Rattle.heap_terms.specs.declared.faults.Why.TheVariants.{Word, Fields, Form}
 use Rattle.heap_terms.specs.declared.kinds.Weakness.{Weakness}
-use Rattle.heap_terms.specs.declared.kinds.Weakness.TheVariants as weaknesses
-use Rattle.heap_terms.specs.Fields.{◌>>=◌, number_of, signed_of, raw_word_of, cell_of, raw_cell_of, weakness_of, ranged, between, at_least, at_most, is_fixnum, is_i64, is_auto, turns_of}
+use Rattle.heap_terms.specs.declared.limits.TheConstants.{MOST_ELEMENTS, MOST_PAIRS, OLDEST_GENERATION}
+use Rattle.heap_terms.specs.Fields.{◌>>=◌, number_of, signed_of, raw_word_of, cell_of, raw_cell_of, weakness_named, ranged, between, at_least, at_most, is_fixnum, is_i64, is_auto, turns_of}
 
 -- what a field may be; a number has a test of its range
 pub data FieldForm : Type 0 where
@@ -21,14 +20,14 @@ pub data FieldForm : Type 0 where
   Number : (ℕ → Bool) → FieldForm
   Signed : (ℤ → Bool) → FieldForm
 
--- what a field says
-pub data FieldValue : Type 0 where
-  CellOf : Cell → FieldValue
-  RawOf : Raw → FieldValue
-  WordOf : ℕ → FieldValue
-  WeaknessOf : Weakness → FieldValue
-  NumberOf : ℕ → FieldValue
-  SignedOf : ℤ → FieldValue
+-- what a field of a form says
+abbrev pub Meaning : FieldForm → Type 0
+Meaning LispCell = Cell
+Meaning RawCell = Raw
+Meaning RawWord = ℕ
+Meaning WeaknessWord = Weakness
+Meaning (Number test) = ℕ
+Meaning (Signed test) = ℤ
 
 -- what a line says
 pub data Statement : Type 0 where
@@ -40,128 +39,90 @@ pub data Statement : Type 0 where
   Turns : List ℕ → Statement
   EndOfScript : Statement
 
--- the row of a word: the forms of the fields after it, and what their values say
+-- what is said once the fields of some forms have their meanings: a statement of each list of meanings of these forms
+abbrev pub Saying : List FieldForm → Type 0
+Saying [] = Statement
+Saying (form ∷ forms) = Meaning form → Saying forms
+
+-- the row of a word: the forms of the fields after it, and what their meanings say
 pub record Row : Type 0 where
   pub word : List ℕ
   pub forms : List FieldForm
-  pub says : List FieldValue → Statement
+  pub says : Saying forms
 
--- a field's value: its form is judged before its range
-abbrev pub value_of : FieldForm → List ℕ → Result FieldValue Why
-value_of LispCell field = ok_or (cell_of field) Form >>= λ c. Ok (CellOf c)
-value_of RawCell field = ok_or (raw_cell_of field) Form >>= λ r. Ok (RawOf r)
-value_of RawWord field = ok_or (raw_word_of field) Form >>= λ w. Ok (WordOf w)
-value_of WeaknessWord field = ok_or (weakness_of field) Form >>= λ w. Ok (WeaknessOf w)
-value_of (Number test) field = ranged test (number_of field) >>= λ n. Ok (NumberOf n)
-value_of (Signed test) field = ranged test (signed_of field) >>= λ n. Ok (SignedOf n)
+-- a field's meaning: its form is judged before its range
+abbrev pub meaning_of : (form : FieldForm) → List ℕ → Result (Meaning form) Why
+meaning_of LispCell field = ok_or (cell_of field) Form
+meaning_of RawCell field = ok_or (raw_cell_of field) Form
+meaning_of RawWord field = ok_or (raw_word_of field) Form
+meaning_of WeaknessWord field = ok_or (weakness_named field) Form
+meaning_of (Number test) field = ranged test (number_of field)
+meaning_of (Signed test) field = ranged test (signed_of field)
 
--- the values of fields, of which there are as many as forms: field by field, from the left
-abbrev pub values_of : List FieldForm → List (List ℕ) → Result (List FieldValue) Why
-values_of [] fields = Ok []
-values_of (form ∷ forms) [] = Err Fields
-values_of (form ∷ forms) (field ∷ fields) = value_of form field >>= λ v. values_of forms fields >>= λ vs. Ok (v ∷ vs)
-
--- the value at a place, of a form that is known from the row
-abbrev pub as_cell : FieldValue → Cell
-as_cell (CellOf c) = c
-as_cell _ = Stack 0
-
-abbrev pub as_raw : FieldValue → Raw
-as_raw (RawOf r) = r
-as_raw _ = record { 0 = 0 }
-
-abbrev pub as_number : FieldValue → ℕ
-as_number (NumberOf n) = n
-as_number (WordOf w) = w
-as_number _ = 0
-
-abbrev pub as_signed : FieldValue → ℤ
-as_signed (SignedOf n) = n
-as_signed _ = pos 0
-
-abbrev pub as_weakness : FieldValue → Weakness
-as_weakness (WeaknessOf w) = w
-as_weakness _ = weaknesses.Strong
-
-abbrev pub value_at : List FieldValue → ℕ → FieldValue
-value_at values i = slice_index_or values i (NumberOf 0)
-
-abbrev pub cell : List FieldValue → ℕ → Cell
-cell values i = as_cell (value_at values i)
-
-abbrev pub raw : List FieldValue → ℕ → Raw
-raw values i = as_raw (value_at values i)
-
-abbrev pub number : List FieldValue → ℕ → ℕ
-number values i = as_number (value_at values i)
-
-abbrev pub signed : List FieldValue → ℕ → ℤ
-signed values i = as_signed (value_at values i)
-
-abbrev pub weakness : List FieldValue → ℕ → Weakness
-weakness values i = as_weakness (value_at values i)
+-- what fields say, of which there are as many as forms: field by field, from the left
+abbrev pub said_of : (forms : List FieldForm) → Saying forms → List (List ℕ) → Result Statement Why
+said_of [] says fields = Ok says
+said_of (form ∷ forms) says [] = Err Fields
+said_of (form ∷ forms) says (field ∷ fields) = meaning_of form field >>= λ m. said_of forms (says m) fields
 
 -- ranges of number fields: an index or a count of elements, a number of 32 bits
 abbrev pub Small : FieldForm
-Small = Number (at_most 65535)
+Small = Number (at_most MOST_ELEMENTS)
 
 abbrev pub Wide : FieldForm
 Wide = Number (at_most 4294967295)
 
-abbrev pub row : List ℕ → List FieldForm → (List FieldValue → Statement) → Row
+abbrev pub row : List ℕ → (forms : List FieldForm) → Saying forms → Row
 row word forms says = record { word = word; forms = forms; says = says }
-
-abbrev pub command : List ℕ → List FieldForm → (List FieldValue → Command) → Row
-command word forms does = row word forms (λ v. Does (does v))
 
 -- The table. A number of pages above 1,024 has its range and passes a limit. Until generations are built `gc`
 -- has the number 0.
 unfoldable pub rows : List Row
 rows =
-    row (codes "lispheap") (Number (between 1 1) ∷ []) (λ v. Version)
-    ∷ row (codes "heap") (Number (at_least 1) ∷ []) (λ v. HeapOf (number v 0))
-    ∷ row (codes "auto") (Number is_auto ∷ []) (λ v. AutoOf (number v 0))
-    ∷ row (codes "thread") [] (λ v. NewThread)
-    ∷ row (codes "end") [] (λ v. EndOfScript)
-    ∷ command (codes "fix") (LispCell ∷ Signed is_fixnum ∷ []) (λ v. commands.Fix (cell v 0) (signed v 1))
-    ∷ command (codes "nil") (LispCell ∷ []) (λ v. commands.MakeNil (cell v 0))
-    ∷ command (codes "move") (LispCell ∷ LispCell ∷ []) (λ v. commands.Move (cell v 0) (cell v 1))
-    ∷ command (codes "cons") (LispCell ∷ LispCell ∷ LispCell ∷ []) (λ v. commands.NewCons (cell v 0) (cell v 1) (cell v 2))
-    ∷ command (codes "vector") (LispCell ∷ Small ∷ []) (λ v. commands.NewVector (cell v 0) (number v 1))
-    ∷ command (codes "instance") (LispCell ∷ Small ∷ []) (λ v. commands.NewInstance (cell v 0) (number v 1))
-    ∷ command (codes "closure") (LispCell ∷ Small ∷ []) (λ v. commands.NewClosure (cell v 0) (number v 1))
-    ∷ command (codes "words") (LispCell ∷ Small ∷ RawWord ∷ []) (λ v. commands.NewWords (cell v 0) (number v 1) (number v 2))
-    ∷ command (codes "weak") (LispCell ∷ LispCell ∷ []) (λ v. commands.NewWeak (cell v 0) (cell v 1))
-    ∷ command (codes "table") (LispCell ∷ WeaknessWord ∷ Number (between 1 64) ∷ []) (λ v. commands.NewTable (cell v 0) (weakness v 1) (number v 2))
-    ∷ command (codes "get") (LispCell ∷ LispCell ∷ Small ∷ []) (λ v. commands.Get (cell v 0) (cell v 1) (number v 2))
-    ∷ command (codes "put") (LispCell ∷ Small ∷ LispCell ∷ []) (λ v. commands.Put (cell v 0) (number v 1) (cell v 2))
-    ∷ command (codes "rawget") (RawCell ∷ LispCell ∷ Small ∷ []) (λ v. commands.RawGet (raw v 0) (cell v 1) (number v 2))
-    ∷ command (codes "rawput") (LispCell ∷ Small ∷ RawCell ∷ []) (λ v. commands.RawPut (cell v 0) (number v 1) (raw v 2))
-    ∷ command (codes "eq") (LispCell ∷ LispCell ∷ []) (λ v. commands.Same (cell v 0) (cell v 1))
-    ∷ command (codes "show") (LispCell ∷ []) (λ v. commands.Show (cell v 0))
-    ∷ command (codes "addr") (RawCell ∷ LispCell ∷ []) (λ v. commands.Addr (raw v 0) (cell v 1))
-    ∷ command (codes "raw") (RawCell ∷ RawWord ∷ []) (λ v. commands.SetRaw (raw v 0) (number v 1))
-    ∷ command (codes "add") (RawCell ∷ Signed is_i64 ∷ []) (λ v. commands.AddRaw (raw v 0) (signed v 1))
-    ∷ command (codes "pin") (LispCell ∷ []) (λ v. commands.Pin (cell v 0))
-    ∷ command (codes "unpin") [] (λ v. commands.Unpin)
-    ∷ command (codes "weakval") (LispCell ∷ LispCell ∷ []) (λ v. commands.WeakVal (cell v 0) (cell v 1))
-    ∷ command (codes "tput") (LispCell ∷ LispCell ∷ LispCell ∷ []) (λ v. commands.TablePut (cell v 0) (cell v 1) (cell v 2))
-    ∷ command (codes "tget") (LispCell ∷ LispCell ∷ LispCell ∷ []) (λ v. commands.TableGet (cell v 0) (cell v 1) (cell v 2))
-    ∷ command (codes "trem") (LispCell ∷ LispCell ∷ []) (λ v. commands.TableRem (cell v 0) (cell v 1))
-    ∷ command (codes "tcount") (LispCell ∷ []) (λ v. commands.TableCount (cell v 0))
-    ∷ command (codes "finalize") (LispCell ∷ Wide ∷ []) (λ v. commands.Finalize (cell v 0) (number v 1))
-    ∷ command (codes "cancel") (LispCell ∷ []) (λ v. commands.Cancel (cell v 0))
-    ∷ command (codes "runfin") [] (λ v. commands.RunFinalizers)
-    ∷ command (codes "gc") (Number (at_most 0) ∷ []) (λ v. commands.Collect (number v 0))
-    ∷ command (codes "nogc") [] (λ v. commands.Inhibit)
-    ∷ command (codes "gcok") [] (λ v. commands.Allow)
-    ∷ command (codes "page") (Wide ∷ []) (λ v. commands.ShowPage (number v 0))
-    ∷ command (codes "stat") (Number (at_most 6) ∷ []) (λ v. commands.Stat (number v 0))
+    row (codes "lispheap") (Number (between 1 1) ∷ []) (λ version. Version)
+    ∷ row (codes "heap") (Number (at_least 1) ∷ []) (λ n. HeapOf n)
+    ∷ row (codes "auto") (Number is_auto ∷ []) (λ n. AutoOf n)
+    ∷ row (codes "thread") [] NewThread
+    ∷ row (codes "end") [] EndOfScript
+    ∷ row (codes "fix") (LispCell ∷ Signed is_fixnum ∷ []) (λ d n. Does (commands.Fix d n))
+    ∷ row (codes "nil") (LispCell ∷ []) (λ d. Does (commands.MakeNil d))
+    ∷ row (codes "move") (LispCell ∷ LispCell ∷ []) (λ d c. Does (commands.Move d c))
+    ∷ row (codes "cons") (LispCell ∷ LispCell ∷ LispCell ∷ []) (λ d a b. Does (commands.NewCons d a b))
+    ∷ row (codes "vector") (LispCell ∷ Small ∷ []) (λ d n. Does (commands.NewVector d n))
+    ∷ row (codes "instance") (LispCell ∷ Small ∷ []) (λ d n. Does (commands.NewInstance d n))
+    ∷ row (codes "closure") (LispCell ∷ Small ∷ []) (λ d n. Does (commands.NewClosure d n))
+    ∷ row (codes "words") (LispCell ∷ Small ∷ RawWord ∷ []) (λ d n w. Does (commands.NewWords d n w))
+    ∷ row (codes "weak") (LispCell ∷ LispCell ∷ []) (λ d c. Does (commands.NewWeak d c))
+    ∷ row (codes "table") (LispCell ∷ WeaknessWord ∷ Number (between 1 MOST_PAIRS) ∷ []) (λ d w b. Does (commands.NewTable d w b))
+    ∷ row (codes "get") (LispCell ∷ LispCell ∷ Small ∷ []) (λ d c i. Does (commands.Get d c i))
+    ∷ row (codes "put") (LispCell ∷ Small ∷ LispCell ∷ []) (λ c i a. Does (commands.Put c i a))
+    ∷ row (codes "rawget") (RawCell ∷ LispCell ∷ Small ∷ []) (λ r c i. Does (commands.RawGet r c i))
+    ∷ row (codes "rawput") (LispCell ∷ Small ∷ RawCell ∷ []) (λ c i r. Does (commands.RawPut c i r))
+    ∷ row (codes "eq") (LispCell ∷ LispCell ∷ []) (λ a b. Does (commands.Same a b))
+    ∷ row (codes "show") (LispCell ∷ []) (λ c. Does (commands.Show c))
+    ∷ row (codes "addr") (RawCell ∷ LispCell ∷ []) (λ r c. Does (commands.Addr r c))
+    ∷ row (codes "raw") (RawCell ∷ RawWord ∷ []) (λ r w. Does (commands.SetRaw r w))
+    ∷ row (codes "add") (RawCell ∷ Signed is_i64 ∷ []) (λ r k. Does (commands.AddRaw r k))
+    ∷ row (codes "pin") (LispCell ∷ []) (λ c. Does (commands.Pin c))
+    ∷ row (codes "unpin") [] (Does commands.Unpin)
+    ∷ row (codes "weakval") (LispCell ∷ LispCell ∷ []) (λ d c. Does (commands.WeakVal d c))
+    ∷ row (codes "tput") (LispCell ∷ LispCell ∷ LispCell ∷ []) (λ c k v. Does (commands.TablePut c k v))
+    ∷ row (codes "tget") (LispCell ∷ LispCell ∷ LispCell ∷ []) (λ d c k. Does (commands.TableGet d c k))
+    ∷ row (codes "trem") (LispCell ∷ LispCell ∷ []) (λ c k. Does (commands.TableRem c k))
+    ∷ row (codes "tcount") (LispCell ∷ []) (λ c. Does (commands.TableCount c))
+    ∷ row (codes "finalize") (LispCell ∷ Wide ∷ []) (λ c id. Does (commands.Finalize c id))
+    ∷ row (codes "cancel") (LispCell ∷ []) (λ c. Does (commands.Cancel c))
+    ∷ row (codes "runfin") [] (Does commands.RunFinalizers)
+    ∷ row (codes "gc") (Number (at_most 0) ∷ []) (λ g. Does (commands.Collect g))
+    ∷ row (codes "nogc") [] (Does commands.Inhibit)
+    ∷ row (codes "gcok") [] (Does commands.Allow)
+    ∷ row (codes "page") (Wide ∷ []) (λ p. Does (commands.ShowPage p))
+    ∷ row (codes "stat") (Number (at_most OLDEST_GENERATION) ∷ []) (λ g. Does (commands.Stat g))
     ∷ []
 
 -- what a row's line says: first the number of its fields is judged, then each field
 abbrev pub said_by : Row → List (List ℕ) → Result Statement Why
-said_by r fields = if length fields == length r.forms then values_of r.forms fields >>= (λ vs. Ok (r.says vs)) else Err Fields
+said_by r fields = if length fields == length r.forms then said_of r.forms r.says fields else Err Fields
 
 abbrev pub said_by_row_of : Option Row → List (List ℕ) → Result Statement Why
 said_by_row_of None fields = Err Word

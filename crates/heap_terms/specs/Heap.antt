@@ -7,6 +7,7 @@ use Rattle.heap_terms.specs.declared.pages.Entry.TheVariants as entries
 use Rattle.heap_terms.specs.declared.programs.Program.{Program}
 use Rattle.heap_terms.specs.declared.kinds.PageType.{PageType}
 use Rattle.heap_terms.specs.declared.kinds.PageType.TheVariants as types
+use Rattle.heap_terms.specs.declared.limits.TheConstants.{CELLS, RAW_CELLS}
 use Rattle.heap_terms.specs.Objects.{Object}
 
 -- A thread: how many of its commands it has done, its cells s, b and r, its pinned words with the latest
@@ -49,9 +50,9 @@ zero_value = values.Fix (pos 0)
 abbrev pub fresh_thread : Thread
 fresh_thread = record {
   done = 0;
-  stack = replicate 16 zero_value;
-  exact = replicate 16 zero_value;
-  raws = replicate 8 0;
+  stack = replicate CELLS zero_value;
+  exact = replicate CELLS zero_value;
+  raws = replicate RAW_CELLS 0;
   pins = [];
   owed = None;
   inhibits = 0;
@@ -72,7 +73,7 @@ start p = record {
   objects = [];
   pages = replicate p.pages entries.Free;
   threads = map (λ _. fresh_thread) p.threads;
-  shared = replicate 16 zero_value;
+  shared = replicate CELLS zero_value;
   finalizers = [];
   queue = [];
   cum = replicate 7 0;

@@ -1,9 +1,9 @@
 -- Lawful histories: what each thread may do next, what an event makes of the heap, and which lists of events
--- a program can have. The events are this project's own.
+-- a program can have. The events are this project's own. Left free are which thread goes next, and the order of the
+-- moves of each pass.
 use Rattle.std.specs.Prelude.{◌≡◌, ℕ, ◌+◌, List, [], ◌∷◌, length, Option, Some, None, if◌then◌else◌, slice_get, slice_index_or, ◌==◌}
 use Rattle.heap_terms.specs.declared.answers.Answer.{Answer}
 use Rattle.heap_terms.specs.declared.answers.Answer.TheVariants as answers
-use Rattle.heap_terms.specs.declared.answers.Refusal.TheVariants.{Exhausted}
 use Rattle.heap_terms.specs.declared.commands.Command.{Command}
 use Rattle.heap_terms.specs.declared.events.Event.{Event}
 use Rattle.heap_terms.specs.declared.events.Event.TheVariants.{Did, Opened, Collected, Ended}
@@ -11,10 +11,11 @@ use Rattle.heap_terms.specs.declared.kinds.PageType.{PageType}
 use Rattle.heap_terms.specs.declared.pages.Next.{Next}
 use Rattle.heap_terms.specs.declared.pages.Next.TheVariants as nexts
 use Rattle.heap_terms.specs.declared.programs.Program.{Program}
+use Rattle.heap_terms.specs.Collections.{IsCollection, collected}
 use Rattle.heap_terms.specs.Heap.{NamedHeap, Thread, start, thread_at, with_thread, ended_thread}
 use Rattle.heap_terms.specs.Layout.{page_type_of, size_of}
+use Rattle.heap_terms.specs.Outcomes.{outcome_of}
 use Rattle.heap_terms.specs.Regions.{Wish, Nothing, Make, wish_of, has_room, pages_needed, IsLowestRun, HasNoRun, opened, committed, place_for}
-use Rattle.heap_terms.specs.Simple.{answer_of, effect_of}
 
 -- the commands of thread t
 abbrev pub script_of : Program → ℕ → List Command
@@ -53,7 +54,7 @@ next p a t =
 abbrev pub advance : NamedHeap → ℕ → NamedHeap
 advance a t = with_thread a t (record (thread_at a t) { done = (thread_at a t).done + 1 })
 
--- how many words a wish asks for, and on which pages
+-- how many words a wish asks for
 abbrev pub wished_size : Wish → ℕ
 wished_size Nothing = 0
 wished_size (Make kind n seed) = size_of kind n
@@ -70,27 +71,29 @@ abbrev pub wish_at : Option Command → Wish
 wish_at None = Nothing
 wish_at (Some c) = wish_of c
 
--- An answer that thread t's command may give, by what t does next. An object that finds no room and no run is
--- refused; one that has room is placed. In every other state a thread does no command.
+-- An answer that thread t's command may give, by what t does next: that of the table of outcomes where it allocates
+-- nothing, and where its object finds no room and no run; the object's name and place where it has room. In every
+-- other state a thread does no command.
 abbrev pub IsAnswer : NamedHeap → ℕ → Command → Answer → Next → Type 0
-IsAnswer a t c answer nexts.Simple = answer_of a t c ≡ Some answer
-IsAnswer a t c answer nexts.Open = (answer ≡ answers.Refused Exhausted) × HasNoRun a.pages (pages_needed (wished_size (wish_of c)))
+IsAnswer a t c answer nexts.Simple = answer ≡ (outcome_of a t c).answer
+IsAnswer a t c answer nexts.Open = (answer ≡ (outcome_of a t c).answer) × HasNoRun a.pages (pages_needed (wished_size (wish_of c)))
 IsAnswer a t c answer (nexts.Build kind n seed) = answer ≡ answers.Placed (length a.objects) (place_for a t kind (size_of kind n))
 IsAnswer a t c answer (nexts.Collect last) = ⊥
 IsAnswer a t c answer nexts.End = ⊥
 IsAnswer a t c answer nexts.Done = ⊥
 
--- An event that may come next. The command of a `Did` is the one at its thread's place. No collection is built yet.
+-- An event that may come next. The command of a `Did` is the one at its thread's place. A collection comes where its
+-- thread owes one and no thread inhibits; its passes are those that the rules of a collection allow.
 unfoldable pub IsNext : Program → NamedHeap → Event → Type 0
 IsNext p a (Did t c answer) = (command_at p a t ≡ Some c) × IsAnswer a t c answer (next p a t)
 IsNext p a (Opened t ty first k) = (next p a t ≡ nexts.Open) × IsOpening a (wish_at (command_at p a t)) ty first k
-IsNext p a (Collected t last passes) = ⊥
+IsNext p a (Collected t last passes) = (next p a t ≡ nexts.Collect last) × IsCollection a last passes
 IsNext p a (Ended t) = next p a t ≡ nexts.End
 
 -- the heap after thread t's command, by what t did
 abbrev pub after_command : Program → NamedHeap → ℕ → Command → Next → NamedHeap
-after_command p a t c nexts.Simple = advance (effect_of a t c) t
-after_command p a t c nexts.Open = advance a t
+after_command p a t c nexts.Simple = advance (outcome_of a t c).heap t
+after_command p a t c nexts.Open = advance (outcome_of a t c).heap t
 after_command p a t c (nexts.Build kind n seed) = advance (committed p a t c kind n) t
 after_command p a t c (nexts.Collect last) = a
 after_command p a t c nexts.End = a
@@ -100,7 +103,7 @@ after_command p a t c nexts.Done = a
 unfoldable pub after : Program → NamedHeap → Event → NamedHeap
 after p a (Did t c answer) = after_command p a t c (next p a t)
 after p a (Opened t ty first k) = opened a t ty first k
-after p a (Collected t last passes) = a
+after p a (Collected t last passes) = collected a t last passes
 after p a (Ended t) = with_thread a t (ended_thread (thread_at a t))
 
 -- the thread that an event belongs to

@@ -1,5 +1,6 @@
--- The layout of objects in words of 64 bits. Tagging a pointer in its low four bits, and the cons without
--- a header, are SBCL's; the numbers here are this project's own.
+-- The layout of objects in words of 64 bits. As in SBCL: a pointer is tagged in its low four bits with 3, 7, 11 or 15, a
+-- fixnum is twice its number, a cons is two words without a header, and a header has a byte for its kind below the
+-- length. This project's own are the kind bytes, the words for NIL, unbound and filler, and the sizes. Nothing is left free.
 use Rattle.std.specs.Prelude.{ℕ, ℤ, pos, negsuc, ◌+◌, ◌-◌, ◌*◌, ◌/◌, ◌^◌}
 use Rattle.heap_terms.specs.declared.kinds.Kind.{Kind}
 use Rattle.heap_terms.specs.declared.kinds.Kind.TheVariants as kinds
@@ -7,6 +8,7 @@ use Rattle.heap_terms.specs.declared.kinds.PageType.{PageType}
 use Rattle.heap_terms.specs.declared.kinds.PageType.TheVariants as types
 use Rattle.heap_terms.specs.declared.kinds.Weakness.{Weakness}
 use Rattle.heap_terms.specs.declared.kinds.Weakness.TheVariants as weaknesses
+use Rattle.heap_terms.specs.declared.limits.TheConstants.{PAGE_WORDS}
 
 -- the byte address of the word with index 0
 abbrev pub base_address : ℕ
@@ -26,7 +28,7 @@ filler_word = 0x41
 
 -- how many words a page has
 abbrev pub page_words : ℕ
-page_words = 512
+page_words = PAGE_WORDS
 
 -- the low four bits of a reference, by the kind of the object: SBCL's list, instance, function and other pointers
 abbrev pub lowtag_of : Kind → ℕ

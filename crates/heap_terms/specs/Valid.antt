@@ -8,16 +8,17 @@ use Rattle.heap_terms.specs.declared.cells.Raw.{Raw}
 use Rattle.heap_terms.specs.declared.commands.Command.{Command}
 use Rattle.heap_terms.specs.declared.commands.Command.TheVariants.{Fix, MakeNil, Move, NewCons, NewVector, NewInstance, NewClosure, NewWords, NewWeak, NewTable, Get, Put, RawGet, RawPut, Same, Show, Addr, SetRaw, AddRaw, Pin, Unpin, WeakVal, TablePut, TableGet, TableRem, TableCount, Finalize, Cancel, RunFinalizers, Collect, Inhibit, Allow, ShowPage, Stat}
 use Rattle.heap_terms.specs.declared.programs.Program.{Program}
+use Rattle.heap_terms.specs.declared.limits.TheConstants.{CELLS, RAW_CELLS, MOST_ELEMENTS, MOST_PAIRS, MOST_PAGES, MOST_THREADS, MOST_COMMANDS, MOST_GCS, MOST_TURNS, OLDEST_COLLECTED, OLDEST_GENERATION}
 
 -- the cells of each kind are 16
 abbrev pub IsCell : Cell → Type 0
-IsCell (Stack i) = i < 16
-IsCell (Exact i) = i < 16
-IsCell (Shared i) = i < 16
+IsCell (Stack i) = i < CELLS
+IsCell (Exact i) = i < CELLS
+IsCell (Shared i) = i < CELLS
 
 -- a thread has 8 raw cells
 abbrev pub IsRaw : Raw → Type 0
-IsRaw r = r.0 < 8
+IsRaw r = r.0 < RAW_CELLS
 
 -- a fixnum is from -2^62 to 2^62 - 1
 abbrev pub IsFixnum : ℤ → Type 0
@@ -81,16 +82,16 @@ IsInRange (Fix d n) = IsCell d × IsFixnum n
 IsInRange (MakeNil d) = IsCell d
 IsInRange (Move d c) = IsCell d × IsCell c
 IsInRange (NewCons d a b) = IsCell d × IsCell a × IsCell b
-IsInRange (NewVector d n) = IsCell d × (n ≤ 65535)
-IsInRange (NewInstance d n) = IsCell d × (n ≤ 65535)
-IsInRange (NewClosure d n) = IsCell d × (n ≤ 65535)
-IsInRange (NewWords d n w) = IsCell d × (n ≤ 65535) × (w < 2 ^ 64)
+IsInRange (NewVector d n) = IsCell d × (n ≤ MOST_ELEMENTS)
+IsInRange (NewInstance d n) = IsCell d × (n ≤ MOST_ELEMENTS)
+IsInRange (NewClosure d n) = IsCell d × (n ≤ MOST_ELEMENTS)
+IsInRange (NewWords d n w) = IsCell d × (n ≤ MOST_ELEMENTS) × (w < 2 ^ 64)
 IsInRange (NewWeak d c) = IsCell d × IsCell c
-IsInRange (NewTable d w b) = IsCell d × (1 ≤ b) × (b ≤ 64)
-IsInRange (Get d c i) = IsCell d × IsCell c × (i ≤ 65535)
-IsInRange (Put c i a) = IsCell c × (i ≤ 65535) × IsCell a
-IsInRange (RawGet r c i) = IsRaw r × IsCell c × (i ≤ 65535)
-IsInRange (RawPut c i r) = IsCell c × (i ≤ 65535) × IsRaw r
+IsInRange (NewTable d w b) = IsCell d × (1 ≤ b) × (b ≤ MOST_PAIRS)
+IsInRange (Get d c i) = IsCell d × IsCell c × (i ≤ MOST_ELEMENTS)
+IsInRange (Put c i a) = IsCell c × (i ≤ MOST_ELEMENTS) × IsCell a
+IsInRange (RawGet r c i) = IsRaw r × IsCell c × (i ≤ MOST_ELEMENTS)
+IsInRange (RawPut c i r) = IsCell c × (i ≤ MOST_ELEMENTS) × IsRaw r
 IsInRange (Same a b) = IsCell a × IsCell b
 IsInRange (Show c) = IsCell c
 IsInRange (Addr r c) = IsRaw r × IsCell c
@@ -106,11 +107,11 @@ IsInRange (TableCount c) = IsCell c
 IsInRange (Finalize c id) = IsCell c × (id < 2 ^ 32)
 IsInRange (Cancel c) = IsCell c
 IsInRange RunFinalizers = Unit {0}
-IsInRange (Collect g) = g ≤ 5
+IsInRange (Collect g) = g ≤ OLDEST_COLLECTED
 IsInRange Inhibit = Unit {0}
 IsInRange Allow = Unit {0}
 IsInRange (ShowPage p) = p < 2 ^ 32
-IsInRange (Stat g) = g ≤ 6
+IsInRange (Stat g) = g ≤ OLDEST_GENERATION
 
 -- a command that a script can have: its word is built, and its fields are in range
 pub record IsCommand (c : Command) : Type 0 where
@@ -120,25 +121,89 @@ pub record IsCommand (c : Command) : Type 0 where
 -- until generations are built a `gc` names generation 0 alone
 abbrev pub NamesYoungest : Command → Type 0
 NamesYoungest (Collect g) = g ≡ 0
-NamesYoungest _ = Unit {0}
+NamesYoungest (Fix d n) = Unit {0}
+NamesYoungest (MakeNil d) = Unit {0}
+NamesYoungest (Move d c) = Unit {0}
+NamesYoungest (NewCons d a b) = Unit {0}
+NamesYoungest (NewVector d n) = Unit {0}
+NamesYoungest (NewInstance d n) = Unit {0}
+NamesYoungest (NewClosure d n) = Unit {0}
+NamesYoungest (NewWords d n w) = Unit {0}
+NamesYoungest (NewWeak d c) = Unit {0}
+NamesYoungest (NewTable d w b) = Unit {0}
+NamesYoungest (Get d c i) = Unit {0}
+NamesYoungest (Put c i a) = Unit {0}
+NamesYoungest (RawGet r c i) = Unit {0}
+NamesYoungest (RawPut c i r) = Unit {0}
+NamesYoungest (Same a b) = Unit {0}
+NamesYoungest (Show c) = Unit {0}
+NamesYoungest (Addr r c) = Unit {0}
+NamesYoungest (SetRaw r w) = Unit {0}
+NamesYoungest (AddRaw r k) = Unit {0}
+NamesYoungest (Pin c) = Unit {0}
+NamesYoungest Unpin = Unit {0}
+NamesYoungest (WeakVal d c) = Unit {0}
+NamesYoungest (TablePut c k v) = Unit {0}
+NamesYoungest (TableGet d c k) = Unit {0}
+NamesYoungest (TableRem c k) = Unit {0}
+NamesYoungest (TableCount c) = Unit {0}
+NamesYoungest (Finalize c id) = Unit {0}
+NamesYoungest (Cancel c) = Unit {0}
+NamesYoungest RunFinalizers = Unit {0}
+NamesYoungest Inhibit = Unit {0}
+NamesYoungest Allow = Unit {0}
+NamesYoungest (ShowPage p) = Unit {0}
+NamesYoungest (Stat g) = Unit {0}
 
 -- whether a command is `gc`
 abbrev pub is_gc : Command → Bool
 is_gc (Collect g) = true
-is_gc _ = false
+is_gc (Fix d n) = false
+is_gc (MakeNil d) = false
+is_gc (Move d c) = false
+is_gc (NewCons d a b) = false
+is_gc (NewVector d n) = false
+is_gc (NewInstance d n) = false
+is_gc (NewClosure d n) = false
+is_gc (NewWords d n w) = false
+is_gc (NewWeak d c) = false
+is_gc (NewTable d w b) = false
+is_gc (Get d c i) = false
+is_gc (Put c i a) = false
+is_gc (RawGet r c i) = false
+is_gc (RawPut c i r) = false
+is_gc (Same a b) = false
+is_gc (Show c) = false
+is_gc (Addr r c) = false
+is_gc (SetRaw r w) = false
+is_gc (AddRaw r k) = false
+is_gc (Pin c) = false
+is_gc Unpin = false
+is_gc (WeakVal d c) = false
+is_gc (TablePut c k v) = false
+is_gc (TableGet d c k) = false
+is_gc (TableRem c k) = false
+is_gc (TableCount c) = false
+is_gc (Finalize c id) = false
+is_gc (Cancel c) = false
+is_gc RunFinalizers = false
+is_gc Inhibit = false
+is_gc Allow = false
+is_gc (ShowPage p) = false
+is_gc (Stat g) = false
 
 -- A program that a script can be read as: one to eight threads, 1 to 1,024 pages, at most 20,000 commands and
 -- 64 `gc` among them, at most 1,000,000 turns. Until `auto` and generations are built the number of `auto` and
 -- that of each `gc` is 0.
 pub record IsValid (p : Program) : Type 0 where
   pub pages_least : 1 ≤ p.pages
-  pub pages_most : p.pages ≤ 1024
+  pub pages_most : p.pages ≤ MOST_PAGES
   pub auto : p.auto ≡ 0
   pub threads_least : 1 ≤ length p.threads
-  pub threads_most : length p.threads ≤ 8
+  pub threads_most : length p.threads ≤ MOST_THREADS
   pub commands : All (All IsCommand) p.threads
   pub gcs : All (All NamesYoungest) p.threads
-  pub commands_most : sum_by length p.threads ≤ 20000
-  pub gcs_most : sum_by (count_by is_gc) p.threads ≤ 64
+  pub commands_most : sum_by length p.threads ≤ MOST_COMMANDS
+  pub gcs_most : sum_by (count_by is_gc) p.threads ≤ MOST_GCS
   pub schedule : All (λ t. t < length p.threads) p.schedule
-  pub schedule_most : length p.schedule ≤ 1000000
+  pub schedule_most : length p.schedule ≤ MOST_TURNS

@@ -9,7 +9,7 @@ pub mod commands;
 pub mod events;
 pub mod faults;
 pub mod kinds;
-pub mod laws;
+pub mod limits;
 pub mod lists;
 pub mod pages;
 pub mod programs;
@@ -23,7 +23,12 @@ pub use events::{
 };
 pub use faults::{LimitKind, Memory, Why};
 pub use kinds::{Kind, PageType, Weakness};
+pub use limits::{
+    CELLS, LEAST_AUTO, MOST_AUTO, MOST_BYTES, MOST_COMMANDS, MOST_ELEMENTS, MOST_GCS, MOST_PAGES,
+    MOST_PAIRS, MOST_PINS, MOST_THREADS, MOST_TRIGGERS, MOST_TURNS, MOST_TURNS_IN_A_ROW,
+    MOST_WORDS, OLDEST_COLLECTED, OLDEST_GENERATION, PAGE_WORDS, RAW_CELLS,
+};
 pub use lists::{Ids, Seq};
-pub use pages::{Entry, Next, PAGE_WORDS};
+pub use pages::{Entry, Next};
 pub use programs::{Program, Scripts, Turns};
 pub use steps::{Owned, ReplayLine, StepAnswer, WordLine, WordStep};

@@ -2,9 +2,6 @@
 
 use crate::kinds::{Kind, PageType};
 
-/// How many words a page has. The number is this project's own.
-pub const PAGE_WORDS: u32 = 512;
-
 /// The entry of a page.
 #[derive(Clone, Copy, Debug, PartialEq, Eq)]
 pub enum Entry {

@@ -3,9 +3,9 @@ use Rattle.std.proofs.Common.{◌≡◌, ℕ, List, map, ap, ◌∙◌, sym, opt
 use Rattle.std.proofs.Math.ListN.{get_or-map}
 use Rattle.heap_terms.specs.declared.pages.Entry.{Entry}
 use Rattle.heap_terms.specs.Heap.{NamedHeap, Thread, thread_at, with_thread, ended_thread, fresh_thread}
-use Rattle.heap_terms.proofs.Places.{set_cases}
+use Rattle.heap_laws.proofs.AtPlaces.{set_cases}
 use Rattle.lisp_heap.specs.Agreement.{Agrees, small_out, run_out}
-use Rattle.lisp_heap.specs.Parcels.{ParcelView}
+use Rattle.lisp_heap.specs.ParcelView.{ParcelView}
 use Rattle.lisp_heap.specs.State.{state_of}
 use Rattle.lisp_heap.specs.declared.states.ThreadState.{ThreadState}
 

@@ -9,7 +9,7 @@ use Rattle.heap_terms.specs.Cells.{with_cell, cell_value}
 use Rattle.heap_terms.specs.Heap.{NamedHeap, Thread, thread_at, with_thread, zero_value}
 use Rattle.heap_terms.specs.Objects.{Object}
 use Rattle.heap_terms.specs.Valid.{IsCell}
-use Rattle.heap_terms.specs.Words.{word_of}
+use Rattle.heap_terms.specs.Spelling.{word_of}
 use Rattle.lisp_heap.specs.CellsView.{CellsView, spot, with_cell_word, cell_word}
 use Rattle.lisp_heap.specs.Standing.{CellsStand}
 use Rattle.lisp_heap.proofs.Threads.{thread_at-same, thread_at-other, thread_part}

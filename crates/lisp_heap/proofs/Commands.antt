@@ -9,8 +9,8 @@ use Rattle.heap_terms.specs.Heap.{NamedHeap, thread_at}
 use Rattle.heap_terms.specs.Histories.{command_at, next}
 use Rattle.heap_terms.specs.Regions.{wish_of, Nothing}
 use Rattle.heap_terms.specs.Valid.{IsValid}
-use Rattle.heap_terms.proofs.Happenings.{next_parts, next_with_command, simple_for}
-use Rattle.heap_terms.proofs.Scripts.{script_built, IsBuilt}
+use Rattle.heap_laws.proofs.ValidScripts.{script_built, IsBuilt}
+use Rattle.heap_laws.proofs.NextEvents.{next_parts, next_with_command, simple_for}
 
 -- a command that allocates nothing wishes for nothing
 pub simple_wish : (p : Program) (a : NamedHeap) (t : ℕ) (c : Command) → command_at p a t ≡ Some c → next p a t ≡ nexts.Simple → wish_of c ≡ Nothing

@@ -7,14 +7,14 @@ use Rattle.heap_terms.specs.declared.programs.Program.{Program}
 use Rattle.heap_terms.specs.Heap.{NamedHeap, object_at}
 use Rattle.heap_terms.specs.Layout.{page_words}
 use Rattle.heap_terms.specs.Objects.{Object, ConsOf, words_of_object}
-use Rattle.heap_terms.specs.Stands.{WordsStand, AreAt}
+use Rattle.heap_terms.specs.Stands.{WordsStand, SlotsStand, KeptStand}
 use Rattle.heap_terms.specs.WellFormed.{IsWellFormed, IsLiving, AreApart, IsPlaced}
-use Rattle.heap_terms.specs.Words.{word_of, spelling}
-use Rattle.heap_terms.proofs.Places.{IfSome-at, IfSome-from, IsSome-from, push_cases}
+use Rattle.heap_terms.specs.Spelling.{word_of}
+use Rattle.heap_laws.proofs.AtPlaces.{IfSome-at, IfSome-from, IsSome-from, push_cases}
 use Rattle.lisp_heap.specs.Standing.{LabelsStand}
 use Rattle.lisp_heap.proofs.ObjectLemmas.{word_of-push, name_below}
 use Rattle.lisp_heap.proofs.PutLemmas.{apart_at, placed_at}
-use Rattle.lisp_heap.proofs.WordLemmas.{AreConses, cons_words, cons_at, cons_spelled, no_fillers, outside}
+use Rattle.lisp_heap.proofs.WordLemmas.{AreConses, cons_words, cons_at, cons_spelled, nothing_kept, no_fillers, outside}
 
 -- the values in each object are living
 abbrev pub HoldLiving : List (Option Object) → Type 0
@@ -55,7 +55,7 @@ module _ (p : Program) (a b : NamedHeap) (words : List ℕ) (o : Object) (P Q : 
   word_kept : (v : Value) → IsLiving a.objects v → word_of b.objects v ≡ word_of a.objects v
   word_kept v h = ap (λ (os : List (Option Object)). word_of os v) pushed ∙ word_of-push a.objects o v h
 
-  new_words : AreAt committed_words o.place (spelling b.objects o.contents)
+  new_words : SlotsStand b.objects committed_words o.place o.contents
   new_words =
       let differ : o.place ≢ o.place + 1 = λ e. omega arith in
       let first : slice_index committed_words o.place ≡ word_of a.objects P =
@@ -66,7 +66,7 @@ module _ (p : Program) (a b : NamedHeap) (words : List ℕ) (o : Object) (P Q : 
       get_or-set_same (set words o.place (word_of a.objects P)) (o.place + 1) (word_of a.objects Q) 0 inside in
       cons_spelled b.objects committed_words o P Q is (first ∙ sym (word_kept P live_P)) (second ∙ sym (word_kept Q live_Q))
 
-  old_words : (name : ℕ) (q : Object) → object_at a.objects name ≡ Some q → AreAt committed_words q.place (spelling b.objects q.contents)
+  old_words : (name : ℕ) (q : Object) → object_at a.objects name ≡ Some q → SlotsStand b.objects committed_words q.place q.contents
   old_words name q h =
       let parts = conses name q h in
       let lives = hold name q (parts.0) (parts.1) h (parts.2) in
@@ -97,8 +97,11 @@ module _ (p : Program) (a b : NamedHeap) (words : List ℕ) (o : Object) (P Q : 
   WordsStand-commit = record {
     long = length-set (set words o.place (word_of a.objects P)) (o.place + 1) (word_of a.objects Q)
         ∙ length-set words o.place (word_of a.objects P) ∙ s.long ∙ ap (λ n. page_words * n) (sym paged);
-    spelled = λ name. IfSome-from (λ (q : Object). AreAt committed_words q.place (spelling b.objects q.contents)) (object_at b.objects name)
-        (by_name (λ (q : Object). AreAt committed_words q.place (spelling b.objects q.contents)) new_words old_words name);
+    spelled = λ name. IfSome-from (λ (q : Object). SlotsStand b.objects committed_words q.place q.contents) (object_at b.objects name)
+        (by_name (λ (q : Object). SlotsStand b.objects committed_words q.place q.contents) new_words old_words name);
+    kept = λ name. IfSome-from (λ (q : Object). KeptStand committed_words q.place q.contents) (object_at b.objects name)
+        (by_name (λ (q : Object). KeptStand committed_words q.place q.contents) (nothing_kept committed_words o.place o.contents P Q is)
+        (λ name q h. let parts = conses name q h in nothing_kept committed_words q.place q.contents (parts.0) (parts.1) (parts.2)) name);
     fillers = no_fillers p b committed_words wf;
   }
 

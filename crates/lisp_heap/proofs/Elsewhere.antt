@@ -3,9 +3,9 @@ use Rattle.std.proofs.Common.{◌≡◌, ℕ, ◌+◌, ◌*◌, List, ap, ◌∙
 use Rattle.heap_terms.specs.declared.kinds.PageType.TheVariants as types
 use Rattle.heap_terms.specs.declared.pages.Entry.{Entry}
 use Rattle.heap_terms.specs.Heap.{NamedHeap, thread_at, entry_at, fill_of}
-use Rattle.heap_terms.proofs.Others.{HasSameEntries}
+use Rattle.heap_laws.proofs.Allocating.{HasSameEntries}
 use Rattle.lisp_heap.specs.Agreement.{Agrees, small_out, run_out, run_pages_of}
-use Rattle.lisp_heap.specs.Parcels.{ParcelView, place_of}
+use Rattle.lisp_heap.specs.ParcelView.{ParcelView, place_of}
 use Rattle.lisp_heap.specs.State.{state_of}
 use Rattle.lisp_heap.specs.declared.states.ThreadState.{ThreadState}
 

@@ -10,11 +10,12 @@ use Rattle.heap_terms.specs.declared.programs.Program.{Program}
 use Rattle.heap_terms.specs.Heap.{NamedHeap, Thread, thread_at, with_thread, ended_thread, zero_value}
 use Rattle.heap_terms.specs.Histories.{IsNext, after, next}
 use Rattle.heap_terms.specs.Objects.{Object}
-use Rattle.heap_terms.specs.Words.{word_of}
+use Rattle.heap_terms.specs.Spelling.{word_of}
 use Rattle.lisp_heap.specs.Agreement.{Agrees, small_out, run_out}
 use Rattle.lisp_heap.specs.CellsView.{CellsView, spot, cleared, with_cleared}
-use Rattle.lisp_heap.specs.Parcels.{ParcelView, empty_parcel}
-use Rattle.lisp_heap.specs.Standing.{CellsStand, Parts, Holds}
+use Rattle.lisp_heap.specs.ParcelView.{ParcelView, empty_parcel}
+use Rattle.lisp_heap.specs.Parts.{Parts}
+use Rattle.lisp_heap.specs.Standing.{CellsStand, Holds}
 use Rattle.lisp_heap.specs.State.{state_of, fresh_state, with_ended}
 use Rattle.lisp_heap.specs.declared.states.ThreadState.{ThreadState}
 use Rattle.lisp_heap.proofs.Agreeing.{Agrees-same}

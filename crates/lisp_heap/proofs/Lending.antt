@@ -9,11 +9,11 @@ use Rattle.heap_terms.specs.declared.pages.Next.TheVariants as nexts
 use Rattle.heap_terms.specs.Heap.{fill_of}
 use Rattle.heap_terms.specs.Histories.{command_at, next, wish_at, wished_size}
 use Rattle.heap_terms.specs.Layout.{page_words}
-use Rattle.heap_terms.specs.Regions.{IsRun, HasNoRun, Wish, pages_needed, place_for}
-use Rattle.heap_terms.proofs.Committing.{has_page, place_small}
-use Rattle.heap_terms.proofs.Places.{IsSome-value}
+use Rattle.heap_terms.specs.Regions.{IsFreeRun, HasNoRun, Wish, pages_needed, place_for}
+use Rattle.heap_laws.proofs.AtPlaces.{IsSome-value}
+use Rattle.heap_laws.proofs.Allocating.{has_page, place_small}
 use Rattle.lisp_heap.specs.Agreement.{Agrees, IsBuiltFor, Lends}
-use Rattle.lisp_heap.specs.Parcels.{ParcelView, RegionView, HasBuilt}
+use Rattle.lisp_heap.specs.ParcelView.{ParcelView, LeaseView, HasBuilt}
 use Rattle.lisp_heap.specs.Sound.{IsSound, view_of}
 use Rattle.lisp_heap.specs.View.{View, heap_of, next_of}
 use Rattle.lisp_heap.specs.declared.parcels.RegionPlace.{RegionPlace}
@@ -32,18 +32,18 @@ needs_one s h t opens =
     ap (λ (o : Option Command). pages_needed (wished_size (wish_at o))) found.1 ∙ ap (λ (w : Wish). pages_needed (wished_size w)) wish
 
 pub lends_opened : (s : Inside) (w : View) → IsSound s → view_of s ≡ w → (t first : ℕ) → t < length w.program.threads → next_of w t ≡ nexts.Open →
-    IsRun (heap s).pages first 1 → Lends w t lents.Opened
+    IsFreeRun (heap s).pages first 1 → Lends w t lents.Opened
 lends_opened s w h e t first lt opens run =
     let here = subst (λ (v : View). next_of v t ≡ nexts.Open) (sym e) opens in
     subst (λ (v : View). Lends v t lents.Opened) e
-    (first, subst (λ (n : ℕ). IsRun (heap s).pages first n) (sym (needs_one s h t here)) run)
+    (first, subst (λ (n : ℕ). IsFreeRun (heap s).pages first n) (sym (needs_one s h t here)) run)
 
 pub lends_exhausted : (s : Inside) (w : View) → IsSound s → view_of s ≡ w → (t : ℕ) → t < length w.program.threads → next_of w t ≡ nexts.Open →
     HasNoRun (heap s).pages 1 → Lends w t lents.Exhausted
 lends_exhausted s w h e t lt opens none =
     let here = subst (λ (v : View). next_of v t ≡ nexts.Open) (sym e) opens in
     subst (λ (v : View). Lends v t lents.Exhausted) e
-    (λ found. none (found.0) (subst (λ (n : ℕ). IsRun (heap s).pages (found.0) n) (needs_one s h t here) found.1))
+    (λ found. none (found.0) (subst (λ (n : ℕ). IsFreeRun (heap s).pages (found.0) n) (needs_one s h t here) found.1))
 
 -- what is built for the owner's next is a cons
 by_next : (s : Inside) → IsSound s → (q : ParcelView) (n : Next) → next s.program (heap s) q.owner ≡ n → IsBuiltFor n q →
@@ -67,7 +67,7 @@ built_cons s w h e q lt built =
     let found = by_next s h q (next_of (view_of s) q.owner) refl here in
     (subst (λ (v : View). next_of v q.owner ≡ nexts.Build kinds.Cons 2 0) e found.0, found.1)
 
-some_region : (o : Option RegionView) (P : RegionView → Type 0) → IsSomeAnd o P → IsSome o
+some_region : (o : Option LeaseView) (P : LeaseView → Type 0) → IsSomeAnd o P → IsSome o
 some_region None P h = absurd h
 some_region (Some r) P h = refl
 
@@ -76,7 +76,7 @@ built_there q h = some_region q.cons (λ r. r.built ≡ Some (record { kind = ki
 
 -- and it goes where the region is filled to
 pub built_place : (s : Inside) (w : View) → IsSound s → view_of s ≡ w → (q : ParcelView) (index : ℕ) → q.owner < length w.program.threads →
-    next_of w q.owner ≡ nexts.Build kinds.Cons 2 0 → Agrees (heap_of w) q → ((r : RegionView) → q.cons ≡ Some r → index ≡ r.next) →
+    next_of w q.owner ≡ nexts.Build kinds.Cons 2 0 → Agrees (heap_of w) q → ((r : LeaseView) → q.cons ≡ Some r → index ≡ r.next) →
     index ≡ place_for (heap_of w) q.owner kinds.Cons 2
 built_place s w h e q index lt builds agrees said =
     let here = subst (λ (v : View). next_of v q.owner ≡ nexts.Build kinds.Cons 2 0) (sym e) builds in

@@ -8,7 +8,7 @@ pub mod Unchanged
 pub mod PerformLemmas
 pub mod Soundness
 pub mod WordReading
-pub mod Outcomes
+pub mod Plans
 pub mod Commands
 pub mod Nexts
 pub mod Stepping

@@ -16,12 +16,12 @@ use Rattle.heap_terms.specs.Layout.{page_words}
 use Rattle.heap_terms.specs.Regions.{Wish, wish_of, has_room}
 use Rattle.heap_terms.specs.Valid.{IsValid}
 use Rattle.heap_terms.specs.WellFormed.{IsWellFormed, IsOpenPage}
-use Rattle.heap_terms.proofs.Committing.{room_page}
-use Rattle.heap_terms.proofs.Scripts.{script_wish}
-use Rattle.heap_terms.proofs.Threading.{open_page_used}
+use Rattle.heap_laws.proofs.SoundHeaps.{open_page_used}
+use Rattle.heap_laws.proofs.Allocating.{room_page}
+use Rattle.heap_laws.proofs.ValidScripts.{script_wish}
 use Rattle.lisp_heap.specs.declared.parcels.RegionPlace.{RegionPlace}
 use Rattle.lisp_heap.specs.Agreement.{Agrees, CanBuild, small_out}
-use Rattle.lisp_heap.specs.Parcels.{ParcelView, RegionView, place_of, Fits, room_of}
+use Rattle.lisp_heap.specs.ParcelView.{ParcelView, LeaseView, place_of, Fits, room_of}
 
 pub next_done : (p : Program) (a : NamedHeap) (t : ℕ) → (thread_at a t).ended ≡ true → nexts.Done ≡ next p a t
 unfolding next
@@ -53,21 +53,21 @@ pub open_page_below : (p : Program) (a : NamedHeap) (t : ℕ) (ty : PageType) �
 open_page_below p a t ty wf page e = open_entry_below ty page a.pages (open_page_used p a t ty page wf e)
 
 -- a region that lies on a page and is filled as far as the page
-pub lies_on : (r : RegionView) (pages : List Entry) (page : ℕ) → r.first ≡ page → r.pages ≡ 1 →
+pub lies_on : (r : LeaseView) (pages : List Entry) (page : ℕ) → r.first ≡ page → r.pages ≡ 1 →
     r.next ≡ page_words * page + fill_of (entry_at pages page) → place_of r ≡ small_out pages page
 lies_on r pages page first one next_is = cc
 
 -- the open region of conses in a parcel that agrees has as much room as the open page
-some_place : (o : Option RegionView) (x : RegionPlace) → option_map place_of o ≡ Some x → (r : RegionView) × (o ≡ Some r) × (place_of r ≡ x)
+some_place : (o : Option LeaseView) (x : RegionPlace) → option_map place_of o ≡ Some x → (r : LeaseView) × (o ≡ Some r) × (place_of r ≡ x)
 some_place None x e = cc
 some_place (Some r) x e = (r, refl, cc)
 
 pub cons_region : (a : NamedHeap) (q : ParcelView) (page : ℕ) → Agrees a q → (thread_at a q.owner).cons_page ≡ Some page →
-    (r : RegionView) × (q.cons ≡ Some r) × (place_of r ≡ small_out a.pages page)
+    (r : LeaseView) × (q.cons ≡ Some r) × (place_of r ≡ small_out a.pages page)
 cons_region a q page agrees e =
     some_place q.cons (small_out a.pages page) (agrees.cons ∙ ap (option_map (small_out a.pages)) e)
 
-has_room_in : (o : Option RegionView) (r : RegionView) (page fill : ℕ) → o ≡ Some r → place_of r ≡ record { first = page; pages = 1; next = page_words * page + fill } → fill + 2 ≤ page_words →
+has_room_in : (o : Option LeaseView) (r : LeaseView) (page fill : ℕ) → o ≡ Some r → place_of r ≡ record { first = page; pages = 1; next = page_words * page + fill } → fill + 2 ≤ page_words →
     IsSomeAnd o (Fits kinds.Cons 2)
 has_room_in None r page fill e place room = cc
 has_room_in (Some s) r page fill e place room =
@@ -76,7 +76,7 @@ has_room_in (Some s) r page fill e place room =
     let pages : r.pages ≡ 1 = ap (λ (x : RegionPlace). x.pages) place in
     let next_is : r.next ≡ page_words * page + fill = ap (λ (x : RegionPlace). x.next) place in
     let enough : 2 ≤ room_of r = omega (arith, first, pages, next_is, room) in
-    subst (λ (k : RegionView). Fits kinds.Cons 2 k) (sym same) (enough, (λ large. cc))
+    subst (λ (k : LeaseView). Fits kinds.Cons 2 k) (sym same) (enough, (λ large. cc))
 
 can_build_cons : (a : NamedHeap) (t : ℕ) (q : ParcelView) → q.owner ≡ t → Agrees a q → (b : Bool) → has_room a t kinds.Cons 2 ≡ b →
     CanBuild (if b then nexts.Build kinds.Cons 2 0 else nexts.Open) q

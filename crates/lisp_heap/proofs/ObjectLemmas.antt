@@ -10,9 +10,9 @@ use Rattle.heap_terms.specs.Layout.{reference_word}
 use Rattle.heap_terms.specs.Objects.{Object}
 use Rattle.heap_terms.specs.Simple.{with_field_at, object_with_field}
 use Rattle.heap_terms.specs.WellFormed.{IsLiving}
-use Rattle.heap_terms.specs.Words.{word_of, word_of_object}
-use Rattle.heap_terms.proofs.Effects.{with_field-kind}
-use Rattle.heap_terms.proofs.Places.{set_cases, IsSome-value}
+use Rattle.heap_terms.specs.Spelling.{word_of, word_of_object}
+use Rattle.heap_laws.proofs.AtPlaces.{set_cases, IsSome-value}
+use Rattle.heap_laws.proofs.SoundHeaps.{with_field-kind}
 
 -- an object whose field changed has the same reference
 word_of_object-with_field : (o : Option Object) (i : ℕ) (w : Value) → word_of_object (object_with_field o i w) ≡ word_of_object o

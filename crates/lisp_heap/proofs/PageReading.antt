@@ -6,7 +6,7 @@ use Rattle.heap_terms.specs.declared.kinds.PageType.TheVariants as types
 use Rattle.heap_terms.specs.declared.pages.Entry.{Entry}
 use Rattle.heap_terms.specs.Heap.{NamedHeap, thread_at, open_page, entry_at, fill_of}
 use Rattle.heap_terms.specs.WellFormed.{IsOpenRun}
-use Rattle.heap_terms.proofs.Threading.{open_run_used}
+use Rattle.heap_laws.proofs.SoundHeaps.{open_run_used}
 use Rattle.lisp_heap.specs.Sound.{IsSound, view_of}
 use Rattle.lisp_heap.specs.State.{state_of, state_page}
 use Rattle.lisp_heap.specs.View.{View, heap_of}

@@ -10,14 +10,15 @@ use Rattle.heap_terms.specs.Objects.{Object}
 use Rattle.heap_terms.specs.Simple.{with_field_at, object_with_field, with_field}
 use Rattle.heap_terms.specs.Stands.{WordsStand}
 use Rattle.heap_terms.specs.WellFormed.{IsWellFormed}
-use Rattle.heap_terms.specs.Words.{word_of}
-use Rattle.heap_terms.proofs.Places.{IfSome-at, IfSome-from, set_cases}
+use Rattle.heap_terms.specs.Spelling.{word_of}
+use Rattle.heap_laws.proofs.AtPlaces.{IfSome-at, IfSome-from, set_cases}
 use Rattle.lisp_heap.specs.CellsView.{CellsView}
-use Rattle.lisp_heap.specs.Outcome.{Makes, cells_after, words_after}
-use Rattle.lisp_heap.specs.Standing.{Parts, Holds, CellsStand, LabelsStand}
+use Rattle.lisp_heap.specs.Plan.{Makes, cells_after, words_after}
+use Rattle.lisp_heap.specs.Parts.{Parts}
+use Rattle.lisp_heap.specs.Standing.{Holds, CellsStand, LabelsStand}
 use Rattle.lisp_heap.specs.State.{state_of}
-use Rattle.lisp_heap.specs.declared.outcome.Change.{Change}
-use Rattle.lisp_heap.specs.declared.outcome.Change.TheVariants as changes
+use Rattle.lisp_heap.specs.declared.plan.Change.{Change}
+use Rattle.lisp_heap.specs.declared.plan.Change.TheVariants as changes
 use Rattle.lisp_heap.specs.declared.states.ThreadState.{ThreadState}
 use Rattle.lisp_heap.proofs.CellLemmas.{CellsStand-with_thread, CellsStand-with_cell, CellsStand-objects}
 use Rattle.lisp_heap.proofs.ObjectLemmas.{word_of-with_field_at}

@@ -24,18 +24,17 @@ use Rattle.heap_terms.specs.Regions.{place_for, is_free, with_fill}
 use Rattle.heap_terms.specs.Stands.{WordsStand}
 use Rattle.heap_terms.specs.Valid.{IsCell}
 use Rattle.heap_terms.specs.WellFormed.{IsWellFormed, IsLiving, IsOpenRunPage, IsPlaced}
-use Rattle.heap_terms.specs.Words.{word_of, word_of_object}
-use Rattle.heap_terms.proofs.Committing.{HasPage, has_page, place_small, committed-small, new_object, heap_with}
-use Rattle.heap_terms.proofs.Counting.{commits_few}
-use Rattle.heap_terms.proofs.Scripts.{script_command}
-use Rattle.heap_terms.proofs.Standing.{after-well_formed}
-use Rattle.heap_terms.proofs.Threading.{open_run_used}
+use Rattle.heap_terms.specs.Spelling.{word_of, word_of_object}
+use Rattle.heap_laws.proofs.SoundHeaps.{commits_few, after-well_formed, open_run_used}
+use Rattle.heap_laws.proofs.Allocating.{HasPage, has_page, place_small, committed-small, new_object, heap_with}
+use Rattle.heap_laws.proofs.ValidScripts.{script_command}
 use Rattle.std.proofs.lemmas.List.{get_or_push}
 use Rattle.lisp_heap.specs.Agreement.{Agrees, small_out}
 use Rattle.lisp_heap.specs.CellsView.{with_cell_word, CellsView}
-use Rattle.lisp_heap.specs.Parcels.{ParcelView, RegionView, place_of, with_accepted, cons_accepted}
+use Rattle.lisp_heap.specs.ParcelView.{ParcelView, LeaseView, place_of, with_accepted, cons_accepted}
 use Rattle.lisp_heap.specs.Sound.{IsSound}
-use Rattle.lisp_heap.specs.Standing.{Parts, Holds, CellsStand, LabelsStand}
+use Rattle.lisp_heap.specs.Parts.{Parts}
+use Rattle.lisp_heap.specs.Standing.{Holds, CellsStand, LabelsStand}
 use Rattle.lisp_heap.specs.State.{state_of, advanced, fresh_state}
 use Rattle.lisp_heap.specs.declared.parcels.RegionPlace.{RegionPlace}
 use Rattle.lisp_heap.specs.declared.states.ThreadState.{ThreadState}
@@ -294,7 +293,7 @@ module _ (s : Inside) (h : IsSound s) (t : ℕ) (d x y : Cell) (index : ℕ) (lt
         run = λ page e. elsewhere page (run_elsewhere q.owner page e);
       }) agrees in
       let on_celled : Agrees celled (with_accepted q) = record {
-        cons = ap (λ (o : Option RegionView). option_map place_of (option_map cons_accepted o)) region.1 ∙ ap Some place
+        cons = ap (λ (o : Option LeaseView). option_map place_of (option_map cons_accepted o)) region.1 ∙ ap Some place
             ∙ ap (option_map (small_out celled.pages)) (sym own_page) ∙ ap (λ (k : ThreadState). option_map (small_out celled.pages) k.cons_page) (sym state);
         boxed = beside.boxed;
         unboxed = beside.unboxed;

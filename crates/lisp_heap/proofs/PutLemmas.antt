@@ -8,12 +8,12 @@ use Rattle.heap_terms.specs.declared.programs.Program.{Program}
 use Rattle.heap_terms.specs.Heap.{NamedHeap, object_at}
 use Rattle.heap_terms.specs.Objects.{Object, Contents, ConsOf, words_of_object}
 use Rattle.heap_terms.specs.Simple.{with_field_at, object_with_field, with_field}
-use Rattle.heap_terms.specs.Stands.{WordsStand, AreAt}
+use Rattle.heap_terms.specs.Stands.{WordsStand, SlotsStand, KeptStand}
 use Rattle.heap_terms.specs.WellFormed.{IsWellFormed, AreApart, IsPlaced}
-use Rattle.heap_terms.specs.Words.{word_of, spelling}
-use Rattle.heap_terms.proofs.Places.{IfSome-at, IfSome-from, IsSome-from}
+use Rattle.heap_terms.specs.Spelling.{word_of}
+use Rattle.heap_laws.proofs.AtPlaces.{IfSome-at, IfSome-from, IsSome-from}
 use Rattle.lisp_heap.proofs.ObjectLemmas.{word_of-with_field_at, name_below}
-use Rattle.lisp_heap.proofs.WordLemmas.{AreConses, cons_words, cons_at, cons_spelled, no_fillers, outside}
+use Rattle.lisp_heap.proofs.WordLemmas.{AreConses, cons_words, cons_at, cons_spelled, nothing_kept, no_fillers, outside}
 
 -- two objects of a well-formed heap share no word
 pub apart_at : (p : Program) (a : NamedHeap) (x y : ℕ) (o q : Object) → IsWellFormed p a → x ≢ y → object_at a.objects x ≡ Some o →
@@ -49,7 +49,7 @@ module _ (p : Program) (a : NamedHeap) (words : List ℕ) (x i : ℕ) (o : Objec
   new_words = set words at_word (word_of a.objects w)
 
   -- the object itself
-  own_words : AreAt new_words o.place (spelling new_objects changed.contents)
+  own_words : SlotsStand new_objects new_words o.place changed.contents
   own_words =
       let placed = placed_at p a x o wf there in
       let two : words_of_object o ≡ 2 = cons_words o P Q is in
@@ -58,7 +58,7 @@ module _ (p : Program) (a : NamedHeap) (words : List ℕ) (x i : ℕ) (o : Objec
       own i low refl room old.0 old.1
     where
       own : (j : ℕ) → j < 2 → j ≡ i → o.place + 2 ≤ length words → slice_index words o.place ≡ word_of a.objects P →
-          slice_index words (o.place + 1) ≡ word_of a.objects Q → AreAt new_words o.place (spelling new_objects (with_field (ConsOf P Q) i w))
+          slice_index words (o.place + 1) ≡ word_of a.objects Q → SlotsStand new_objects new_words o.place (with_field (ConsOf P Q) i w)
       own zero l same room first second =
           let here : o.place + i ≡ o.place = omega arith in
           let written : slice_index new_words o.place ≡ word_of a.objects w =
@@ -67,7 +67,7 @@ module _ (p : Program) (a : NamedHeap) (words : List ℕ) (x i : ℕ) (o : Objec
           let other : o.place + 1 ≢ at_word = λ e. omega arith in
           let kept : slice_index new_words (o.place + 1) ≡ word_of a.objects Q =
           get_or-set_other words at_word (o.place + 1) (word_of a.objects w) 0 other ∙ second in
-          subst (λ (k : ℕ). AreAt new_words o.place (spelling new_objects (with_field (ConsOf P Q) k w))) same
+          subst (λ (k : ℕ). SlotsStand new_objects new_words o.place (with_field (ConsOf P Q) k w)) same
           (cons_spelled new_objects new_words (record o { contents = ConsOf w Q }) w Q refl
           (written ∙ sym (word_of-with_field_at a.objects (Ref x) i w w)) (kept ∙ sym (word_of-with_field_at a.objects (Ref x) i w Q)))
       own (suc zero) l same room first second =
@@ -78,13 +78,13 @@ module _ (p : Program) (a : NamedHeap) (words : List ℕ) (x i : ℕ) (o : Objec
           let other : o.place ≢ at_word = λ e. omega arith in
           let kept : slice_index new_words o.place ≡ word_of a.objects P =
           get_or-set_other words at_word o.place (word_of a.objects w) 0 other ∙ first in
-          subst (λ (k : ℕ). AreAt new_words o.place (spelling new_objects (with_field (ConsOf P Q) k w))) same
+          subst (λ (k : ℕ). SlotsStand new_objects new_words o.place (with_field (ConsOf P Q) k w)) same
           (cons_spelled new_objects new_words (record o { contents = ConsOf P w }) P w refl
           (kept ∙ sym (word_of-with_field_at a.objects (Ref x) i w P)) (written ∙ sym (word_of-with_field_at a.objects (Ref x) i w w)))
       own (suc (suc j)) l same room first second = absurd (omega arith)
 
   -- every other object
-  others_words : (name : ℕ) (q : Object) → name ≢ x → object_at a.objects name ≡ Some q → AreAt new_words q.place (spelling new_objects q.contents)
+  others_words : (name : ℕ) (q : Object) → name ≢ x → object_at a.objects name ≡ Some q → SlotsStand new_objects new_words q.place q.contents
   others_words name q n h =
       let parts = conses name q h in
       let two : words_of_object o ≡ 2 = cons_words o P Q is in
@@ -98,16 +98,33 @@ module _ (p : Program) (a : NamedHeap) (words : List ℕ) (x i : ℕ) (o : Objec
       (kept.0 ∙ old.0 ∙ sym (word_of-with_field_at a.objects (Ref x) i w (parts.0)))
       (kept.1 ∙ old.1 ∙ sym (word_of-with_field_at a.objects (Ref x) i w (parts.1)))
 
+  -- look-up keeps none of the words
+  none_kept : (name : ℕ) (q : Object) → object_at new_objects name ≡ Some q → KeptStand new_words q.place q.contents
+  none_kept name q h = elim (cases_eq name x) [
+    | inl e ↦ (
+        let found : Some q ≡ Some changed = sym h ∙ ap (object_at new_objects) e ∙ now_there in
+        let same : q ≡ changed = cc in
+        subst (λ (k : Object). KeptStand new_words k.place k.contents) (sym same) (own i))
+    | inr n ↦ (
+        let parts = conses name q (sym (get_or-set_other a.objects x name (object_with_field (object_at a.objects x) i w) None n) ∙ h) in
+        nothing_kept new_words q.place q.contents (parts.0) (parts.1) (parts.2))
+  ]
+    where
+      own : (j : ℕ) → KeptStand new_words o.place (with_field (ConsOf P Q) j w)
+      own zero = nothing_kept new_words o.place (ConsOf w Q) w Q refl
+      own (suc j) = nothing_kept new_words o.place (ConsOf P w) P w refl
+
   pub WordsStand-put : IsWellFormed p (record a { objects = new_objects }) → WordsStand (record a { objects = new_objects }) new_words
   WordsStand-put after = record {
     long = length-set words at_word (word_of a.objects w) ∙ s.long;
-    spelled = λ name. IfSome-from (λ (q : Object). AreAt new_words q.place (spelling new_objects q.contents)) (object_at new_objects name) (λ q h.
+    spelled = λ name. IfSome-from (λ (q : Object). SlotsStand new_objects new_words q.place q.contents) (object_at new_objects name) (λ q h.
         elim (cases_eq name x) [
           | inl e ↦ (
               let found : Some q ≡ Some changed = sym h ∙ ap (object_at new_objects) e ∙ now_there in
               let same : q ≡ changed = cc in
-              subst (λ (k : Object). AreAt new_words k.place (spelling new_objects k.contents)) (sym same) own_words)
+              subst (λ (k : Object). SlotsStand new_objects new_words k.place k.contents) (sym same) own_words)
           | inr n ↦ others_words name q n (sym (get_or-set_other a.objects x name (object_with_field (object_at a.objects x) i w) None n) ∙ h)
         ]);
+    kept = λ name. IfSome-from (λ (q : Object). KeptStand new_words q.place q.contents) (object_at new_objects name) (none_kept name);
     fillers = no_fillers p (record a { objects = new_objects }) new_words after;
   }

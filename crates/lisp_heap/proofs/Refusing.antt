@@ -10,7 +10,7 @@ use Rattle.heap_terms.specs.Heap.{NamedHeap, thread_at}
 use Rattle.heap_terms.specs.Histories.{IsNext, IsAnswer, after, after_command, advance, command_at, next, wished_size}
 use Rattle.heap_terms.specs.Regions.{HasNoRun, Wish, pages_needed, wish_of}
 use Rattle.lisp_heap.specs.Agreement.{Agrees}
-use Rattle.lisp_heap.specs.Parcels.{ParcelView}
+use Rattle.lisp_heap.specs.ParcelView.{ParcelView}
 use Rattle.lisp_heap.specs.Sound.{IsSound, parts_of}
 use Rattle.lisp_heap.specs.Standing.{Holds}
 use Rattle.lisp_heap.specs.State.{state_of, advanced, fresh_state}

@@ -11,14 +11,12 @@ use Rattle.heap_terms.specs.declared.programs.Program.{Program}
 use Rattle.heap_terms.specs.Heap.{NamedHeap, Thread, thread_at, with_thread, entry_at, fill_of}
 use Rattle.heap_terms.specs.Histories.{IsNext, IsOpening, after, command_at, next, wish_at}
 use Rattle.heap_terms.specs.Layout.{page_words}
-use Rattle.heap_terms.specs.Regions.{IsRun, IsLowestRun, Wish, opened, with_run}
+use Rattle.heap_terms.specs.Regions.{IsFreeRun, IsLowestRun, Wish, opened, with_run}
 use Rattle.heap_terms.specs.WellFormed.{IsWellFormed, IsOpenPage, IsOpenRunPage}
-use Rattle.heap_terms.proofs.Opening.{run_length, run_entry, run_cases}
-use Rattle.heap_terms.proofs.Others.{HasSameEntries}
-use Rattle.heap_terms.proofs.Standing.{after-well_formed}
-use Rattle.heap_terms.proofs.Threading.{open_page_used, open_run_used}
+use Rattle.heap_laws.proofs.SoundHeaps.{after-well_formed, open_page_used, open_run_used}
+use Rattle.heap_laws.proofs.Allocating.{run_length, run_entry, run_cases, HasSameEntries}
 use Rattle.lisp_heap.specs.Agreement.{Agrees, small_out}
-use Rattle.lisp_heap.specs.Parcels.{ParcelView, with_cons}
+use Rattle.lisp_heap.specs.ParcelView.{ParcelView, with_cons}
 use Rattle.lisp_heap.specs.Sound.{IsSound, parts_of}
 use Rattle.lisp_heap.specs.Standing.{Holds}
 use Rattle.lisp_heap.specs.State.{state_of, with_cons_open, fresh_state}
@@ -42,7 +40,7 @@ run_not_free start k Free h e = h
 run_not_free start k (Used other g fill first n) h e = cc
 
 -- the entries of open regions stay while a run of free pages is taken
-pub entries_kept : (p : Program) (a : NamedHeap) (first : ℕ) (u : ℕ) → IsWellFormed p a → IsRun a.pages first 1 →
+pub entries_kept : (p : Program) (a : NamedHeap) (first : ℕ) (u : ℕ) → IsWellFormed p a → IsFreeRun a.pages first 1 →
     (b : NamedHeap) → b.pages ≡ with_run a.pages first 1 types.Cons → HasSameEntries a b u
 entries_kept p a first u wf run b pages = record {
   pages = λ ty page e. ap (λ (ps : List Entry). entry_at ps page) pages ∙ elim (run_cases a.pages first 1 types.Cons page run) [
@@ -98,6 +96,7 @@ module _ (s : Inside) (h : IsSound s) (t : ℕ) (c : Command) (first : ℕ) (lt 
         words = record {
           long = h.holds.words.long ∙ ap (λ n. page_words * n) (sym long);
           spelled = h.holds.words.spelled;
+          kept = h.holds.words.kept;
           fillers = no_fillers s.program opened_heap s.space opened_well_formed;
         };
         pages = ap (λ (ps : List Entry). with_run ps first 1 types.Cons) h.holds.pages;

@@ -1,14 +1,14 @@
 -- What is known of the heap for which a sound World stands.
-use Rattle.std.proofs.Common.{◌≡◌, ℕ, ◌+◌, ◌*◌, ◌<◌, ◌≤◌, List, length, ◌∙◌, subst, ap, arith, Option}
+use Rattle.std.proofs.Common.{◌≡◌, ℕ, ◌<◌, List, length, ◌∙◌, subst, ap, arith, Option}
 use Rattle.std.proofs.Math.ListN.{length-map}
 use Rattle.std.specs.Prelude.{IfSome}
 use Rattle.heap_terms.specs.Heap.{NamedHeap, object_at}
 use Rattle.heap_terms.specs.Histories.{replay}
 use Rattle.heap_terms.specs.Objects.{Object, Contents}
 use Rattle.heap_terms.specs.WellFormed.{IsWellFormed, HoldsLiving}
-use Rattle.heap_terms.proofs.Conses.{IsCons, only_conses, cons_contents}
-use Rattle.heap_terms.proofs.Places.{IfSome-at}
-use Rattle.heap_terms.proofs.Standing.{replay-well_formed}
+use Rattle.heap_laws.proofs.AtPlaces.{IfSome-at}
+use Rattle.heap_laws.proofs.SoundHeaps.{IsCons, only_conses, cons_contents, replay-well_formed}
+use Rattle.lisp_heap.specs.CellsView.{HasCells}
 use Rattle.lisp_heap.specs.Sound.{IsSound}
 use Rattle.lisp_heap.specs.State.{state_of}
 use Rattle.lisp_heap.specs.declared.world.World.TheInside.{Inside}
@@ -34,7 +34,11 @@ pub states_length : (s : Inside) → IsSound s → length s.states ≡ length s.
 states_length s h = ap length h.holds.states ∙ length-map (heap s).threads state_of ∙ (well_formed s h).threads_length
 
 pub cells_room : (s : Inside) (t : ℕ) → IsSound s → t < length s.program.threads →
-    (16 * t + 16 ≤ length s.cells.stack) × (16 * t + 16 ≤ length s.cells.exact) × (length s.cells.shared ≡ 16)
+    HasCells s.cells t
 cells_room s t h lt =
     let wf = well_formed s h in
-    (omega (arith, h.holds.cells.stack_length, wf.threads_length), omega (arith, h.holds.cells.exact_length, wf.threads_length), h.holds.cells.shared_length)
+    record {
+      stack = omega (arith, h.holds.cells.stack_length, wf.threads_length);
+      exact = omega (arith, h.holds.cells.exact_length, wf.threads_length);
+      shared = h.holds.cells.shared_length;
+    }

@@ -11,12 +11,12 @@ use Rattle.heap_terms.specs.Layout.{page_words}
 use Rattle.heap_terms.specs.Objects.{Object}
 use Rattle.heap_terms.specs.Stands.{WordsStand}
 use Rattle.heap_terms.specs.Valid.{IsValid}
-use Rattle.heap_terms.specs.Words.{word_of}
-use Rattle.heap_terms.proofs.Counting.{start_thread_is}
-use Rattle.heap_terms.proofs.Threading.{start-well_formed}
-use Rattle.lisp_heap.specs.CellsView.{CellsView, spot}
+use Rattle.heap_terms.specs.Spelling.{word_of}
+use Rattle.heap_laws.proofs.SoundHeaps.{start_thread_is, start-well_formed}
+use Rattle.lisp_heap.specs.CellsView.{spot, zero_cells}
 use Rattle.lisp_heap.specs.Sound.{IsSound, parts_of}
-use Rattle.lisp_heap.specs.Standing.{CellsStand, LabelsStand, Parts, Holds}
+use Rattle.lisp_heap.specs.Parts.{page_labels, fresh_parts}
+use Rattle.lisp_heap.specs.Standing.{CellsStand, LabelsStand, Holds}
 use Rattle.lisp_heap.specs.State.{state_of, fresh_state}
 use Rattle.lisp_heap.specs.declared.states.ThreadState.{ThreadState}
 use Rattle.lisp_heap.specs.declared.world.World.TheInside.{Inside}
@@ -28,19 +28,16 @@ unfolding start
 start_words p = record {
   long = length-replicate (page_words * p.pages) 0 ∙ ap (λ (n : ℕ). page_words * n) (sym (length-replicate p.pages Free));
   spelled = λ name. tt;
+  kept = λ name. tt;
   fillers = no_fillers p (start p) (replicate (page_words * p.pages) 0) (start-well_formed p);
 }
 
-start_labels : (p : Program) → LabelsStand (start p) (replicate (256 * p.pages) 0)
+start_labels : (p : Program) → LabelsStand (start p) (replicate (page_labels * p.pages) 0)
 unfolding start
 start_labels p = record {
-  long = length-replicate (256 * p.pages) 0 ∙ ap (λ (n : ℕ). 256 * n) (sym (length-replicate p.pages Free));
+  long = length-replicate (page_labels * p.pages) 0 ∙ ap (λ (n : ℕ). page_labels * n) (sym (length-replicate p.pages Free));
   named = λ name. tt;
 }
-
--- the cells of all threads, each the fixnum 0
-abbrev pub start_cells : ℕ → CellsView
-start_cells n = record { stack = replicate (16 * n) 0; exact = replicate (16 * n) 0; shared = replicate 16 0 }
 
 start_count : (p : Program) → length (start p).threads ≡ length p.threads
 unfolding start
@@ -54,7 +51,7 @@ shared_cell : (p : Program) (i : ℕ) → i < 16 → 0 ≡ word_of (start p).obj
 unfolding start
 shared_cell p i hi = zero_cell (start p).objects i hi
 
-start_stands : (p : Program) → CellsStand (start p) (start_cells (length p.threads))
+start_stands : (p : Program) → CellsStand (start p) (zero_cells (length p.threads))
 start_stands p =
     let n = length p.threads in
     record {
@@ -90,22 +87,27 @@ start_commits : (p : Program) → 0 ≡ length (start p).objects
 unfolding start
 start_commits p = refl
 
-pub holds_start : (p : Program) (v : Parts) → v.words ≡ replicate (page_words * p.pages) 0 → v.pages ≡ replicate p.pages Free →
-    v.labels ≡ replicate (256 * p.pages) 0 → v.cells ≡ start_cells (length p.threads) → v.states ≡ replicate (length p.threads) fresh_state →
-    v.commits ≡ 0 → Holds (start p) v
-holds_start p v words pages labels cells states commits = record {
-  words = subst (λ (xs : List ℕ). WordsStand (start p) xs) (sym words) (start_words p);
-  pages = pages ∙ start_pages p;
-  labels = subst (λ (xs : List ℕ). LabelsStand (start p) xs) (sym labels) (start_labels p);
-  cells = subst (λ (k : CellsView). CellsStand (start p) k) (sym cells) (start_stands p);
-  states = states ∙ start_states p;
-  commits = commits ∙ start_commits p;
+holds_start : (p : Program) → Holds (start p) (fresh_parts p)
+holds_start p = record {
+  words = start_words p;
+  pages = start_pages p;
+  labels = start_labels p;
+  cells = start_stands p;
+  states = start_states p;
+  commits = start_commits p;
 }
 
 -- the fields of a World without a history
-pub starts_sound : (s : Inside) → IsValid s.program → s.history.items ≡ [] → Holds (start s.program) (parts_of s) → IsSound s
-starts_sound s valid empty holds = record {
+pub starts_sound : (s : Inside) → IsValid s.program → s.history.items ≡ [] → parts_of s ≡ fresh_parts s.program → IsSound s
+starts_sound s valid empty parts = record {
   valid = valid;
   lawful = subst (λ (es : List Event). Lawful s.program es) (sym empty) tt;
-  holds = subst (λ (es : List Event). Holds (replay s.program es) (parts_of s)) (sym empty) holds;
+  holds = subst (λ (es : List Event). Holds (replay s.program es) (parts_of s)) (sym empty)
+      (subst (Holds (start s.program)) (sym parts) (holds_start s.program));
 }
+
+-- a World whose fields are as at the start
+pub fresh_is : (s : Inside) → s.space ≡ replicate (page_words * s.program.pages) 0 → s.pages ≡ replicate s.program.pages Free →
+    s.labels ≡ replicate (page_labels * s.program.pages) 0 → s.cells ≡ zero_cells (length s.program.threads) →
+    s.states ≡ replicate (length s.program.threads) fresh_state → s.commits ≡ 0 → parts_of s ≡ fresh_parts s.program
+fresh_is s words pages labels cells states commits = cc

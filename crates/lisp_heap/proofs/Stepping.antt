@@ -15,20 +15,20 @@ use Rattle.heap_terms.specs.Histories.{IsNext, IsAnswer, after, after_command, a
 use Rattle.heap_terms.specs.Simple.{effect_of}
 use Rattle.heap_terms.specs.Valid.{IsValid}
 use Rattle.heap_terms.specs.WellFormed.{IsWellFormed}
-use Rattle.heap_terms.proofs.Appending.{Lawful-push, replay-push}
-use Rattle.heap_terms.proofs.Happenings.{next_parts}
-use Rattle.heap_terms.proofs.Scripts.{script_place, script_command}
-use Rattle.heap_terms.proofs.Standing.{effect-kept}
+use Rattle.heap_laws.proofs.SoundHeaps.{effect-kept}
+use Rattle.heap_laws.proofs.ValidScripts.{script_place, script_command}
+use Rattle.heap_laws.proofs.NextEvents.{Lawful-push, replay-push, next_parts}
 use Rattle.lisp_heap.specs.Agreement.{Agrees}
 use Rattle.lisp_heap.specs.Events.{Happens}
-use Rattle.lisp_heap.specs.Outcome.{IsOutcome, Makes, CanChange}
-use Rattle.lisp_heap.specs.Parcels.{ParcelView}
+use Rattle.lisp_heap.specs.Plan.{IsPlan, Makes, CanChange}
+use Rattle.lisp_heap.specs.ParcelView.{ParcelView}
 use Rattle.lisp_heap.specs.Sound.{IsSound, view_of, parts_of}
-use Rattle.lisp_heap.specs.Standing.{Parts, Holds}
+use Rattle.lisp_heap.specs.Parts.{Parts}
+use Rattle.lisp_heap.specs.Standing.{Holds}
 use Rattle.lisp_heap.specs.State.{state_of, advanced, fresh_state}
 use Rattle.lisp_heap.specs.View.{View, heap_of}
-use Rattle.lisp_heap.specs.declared.outcome.Change.{Change}
-use Rattle.lisp_heap.specs.declared.outcome.Change.TheVariants as changes
+use Rattle.lisp_heap.specs.declared.plan.Change.{Change}
+use Rattle.lisp_heap.specs.declared.plan.Change.TheVariants as changes
 use Rattle.lisp_heap.specs.declared.states.ThreadState.{ThreadState}
 use Rattle.lisp_heap.specs.declared.world.World.TheInside.{Inside}
 use Rattle.lisp_heap.proofs.Agreeing.{Agrees-same, Agrees-thread, states_at}
@@ -59,10 +59,10 @@ sound_after s r e h program history lawful holds =
     record { valid = there.valid; lawful = there.lawful; holds = there.holds }
 
 pub happens_after : (s r : Inside) (w : View) (t : ℕ) (e : Event) → view_of s ≡ w → r.program ≡ s.program → r.history.items ≡ s.history.items ++ e ∷ [] →
-    thread_of e ≡ t → IsNext s.program (heap s) e → Happens t w (view_of r)
-happens_after s r w t e view program history thread lawful =
+    thread_of e ≡ t → IsNext s.program (heap s) e → IsSound r → Happens t w (view_of r)
+happens_after s r w t e view program history thread lawful sound =
     subst (λ (x : View). Happens t x (view_of r)) view
-    (record { event = e; thread = thread; lawful = lawful; program = program; history = history })
+    (record { event = e; thread = thread; lawful = lawful; program = program; history = history; stands = sound.holds })
 
 -- the heap after it
 pub heap_after : (s r : Inside) (e : Event) → r.program ≡ s.program → r.history.items ≡ s.history.items ++ e ∷ [] →
@@ -94,7 +94,7 @@ makes_pages a t new (changes.InSpace index word) m = ap (λ (b : NamedHeap). b.p
 
 module _ (s : Inside) (h : IsSound s) (t : ℕ) (c : Command) (answer : Answer) (change : Change)
     (lt : t < length s.program.threads) (at : command_at s.program (heap s) t ≡ Some c) (simple : next s.program (heap s) t ≡ nexts.Simple)
-    (is : IsOutcome (heap s) t c answer change) where
+    (is : IsPlan (heap s) t c answer change) where
   pub did_next : IsNext s.program (heap s) (Did t c answer)
   unfolding IsNext
   did_next = (at, subst (λ (n : Next). IsAnswer (heap s) t c answer n) (sym simple) is.answers)
@@ -141,7 +141,7 @@ module _ (s : Inside) (h : IsSound s) (t : ℕ) (c : Command) (answer : Answer) 
     where
       by_change : (k : Change) → Makes (heap s) t (effect_of (heap s) t c) k → CanChange s.cells s.space t k
       by_change changes.Nothing m = tt
-      by_change (changes.InCell cell word) m = (m.is_cell, (cells_room s t h lt).0, (cells_room s t h lt).1, (cells_room s t h lt).2)
+      by_change (changes.InCell cell word) m = (m.is_cell, cells_room s t h lt)
       by_change (changes.InSpace index word) m =
           let placed = placed_at s.program (heap s) m.name m.object (well_formed s h) m.there in
           let two : words_of_object m.object ≡ 2 = cons_words m.object m.first m.second m.cons in

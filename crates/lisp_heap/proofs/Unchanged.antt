@@ -11,9 +11,8 @@ use Rattle.heap_terms.specs.Cells.{with_cell}
 use Rattle.heap_terms.specs.Heap.{NamedHeap, Thread, thread_at, with_thread, object_at, entry_at, fill_of}
 use Rattle.heap_terms.specs.Layout.{page_words, filler_word}
 use Rattle.heap_terms.specs.Objects.{Object}
-use Rattle.heap_terms.specs.Stands.{WordsStand, AreAt}
+use Rattle.heap_terms.specs.Stands.{WordsStand, SlotsStand, KeptStand}
 use Rattle.heap_terms.specs.WellFormed.{IsOwned}
-use Rattle.heap_terms.specs.Words.{spelling}
 use Rattle.lisp_heap.specs.Standing.{LabelsStand}
 use Rattle.lisp_heap.specs.State.{state_of}
 use Rattle.lisp_heap.specs.declared.states.ThreadState.{ThreadState}
@@ -21,7 +20,8 @@ use Rattle.lisp_heap.specs.declared.states.ThreadState.{ThreadState}
 pub WordsStand-same : (a b : NamedHeap) (words : List ℕ) → b.objects ≡ a.objects → b.pages ≡ a.pages → WordsStand a words → WordsStand b words
 WordsStand-same a b words objects pages s = record {
   long = s.long ∙ ap (λ (ps : List Entry). page_words * length ps) (sym pages);
-  spelled = subst (λ (os : List (Option Object)). (name : ℕ) → IfSome (object_at os name) (λ o. AreAt words o.place (spelling os o.contents))) (sym objects) s.spelled;
+  spelled = subst (λ (os : List (Option Object)). (name : ℕ) → IfSome (object_at os name) (λ o. SlotsStand os words o.place o.contents)) (sym objects) s.spelled;
+  kept = subst (λ (os : List (Option Object)). (name : ℕ) → IfSome (object_at os name) (λ o. KeptStand words o.place o.contents)) (sym objects) s.kept;
   fillers = subst (λ (os : List (Option Object)). (page i : ℕ) → i < fill_of (entry_at b.pages page) → ¬ IsOwned os (page_words * page + i) →
       slice_index words (page_words * page + i) ≡ filler_word) (sym objects)
       (subst (λ (ps : List Entry). (page i : ℕ) → i < fill_of (entry_at ps page) → ¬ IsOwned a.objects (page_words * page + i) →

@@ -13,8 +13,8 @@ use Rattle.heap_terms.specs.Heap.{NamedHeap, thread_at}
 use Rattle.heap_terms.specs.Histories.{command_at, next, next_for, next_command}
 use Rattle.heap_terms.specs.Regions.{wish_of, Wish, Make, has_room}
 use Rattle.heap_terms.specs.Valid.{IsValid}
-use Rattle.heap_terms.proofs.Happenings.{next_parts, next_with_command, builds_for}
-use Rattle.heap_terms.proofs.Scripts.{script_wish, IsBuilt, only_cons_built}
+use Rattle.heap_laws.proofs.ValidScripts.{script_wish, IsBuilt, only_cons_built}
+use Rattle.heap_laws.proofs.NextEvents.{next_parts, next_with_command, builds_for}
 
 -- a thread that opens a region wants a cons
 pub opens_cons : (p : Program) (a : NamedHeap) (t : ℕ) (c : Command) → IsValid p → command_at p a t ≡ Some c → next p a t ≡ nexts.Open →

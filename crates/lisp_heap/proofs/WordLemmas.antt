@@ -1,15 +1,15 @@
 -- The words of the space go on standing for the heap.
-use Rattle.std.proofs.Common.{◌≡◌, ◌≢◌, ℕ, zero, suc, ◌+◌, ◌*◌, ◌<◌, ◌≤◌, List, [], ◌∷◌, sym, subst, ap, arith, set, get_or-set_other, inl, inr, Option, Some, ◌⊎◌}
+use Rattle.std.proofs.Common.{◌≡◌, ◌≢◌, ℕ, zero, suc, ◌+◌, ◌*◌, ◌<◌, ◌≤◌, List, sym, subst, ap, arith, set, get_or-set_other, inl, inr, Option, Some, ◌⊎◌}
 use Rattle.std.specs.Prelude.{slice_index}
 use Rattle.heap_terms.specs.declared.cells.Value.{Value}
 use Rattle.heap_terms.specs.declared.programs.Program.{Program}
 use Rattle.heap_terms.specs.Heap.{NamedHeap, object_at, entry_at, fill_of}
 use Rattle.heap_terms.specs.Layout.{page_words}
 use Rattle.heap_terms.specs.Objects.{Object, Contents, ConsOf, words_of_object}
-use Rattle.heap_terms.specs.Stands.{WordsStand, AreAt}
+use Rattle.heap_terms.specs.Stands.{WordsStand, SlotsStand, KeptStand}
 use Rattle.heap_terms.specs.WellFormed.{IsWellFormed, IsOwned}
-use Rattle.heap_terms.specs.Words.{word_of, spelling}
-use Rattle.heap_terms.proofs.Places.{IfSome-at}
+use Rattle.heap_terms.specs.Spelling.{word_of}
+use Rattle.heap_laws.proofs.AtPlaces.{IfSome-at}
 
 -- each object is a cons: so far no other kind is built
 abbrev pub AreConses : List (Option Object) → Type 0
@@ -24,26 +24,35 @@ pub cons_at : (a : NamedHeap) (words : List ℕ) (x : ℕ) (o : Object) (p q : V
     object_at a.objects x ≡ Some o → o.contents ≡ ConsOf p q →
     (slice_index words o.place ≡ word_of a.objects p) × (slice_index words (o.place + 1) ≡ word_of a.objects q)
 cons_at a words x o p q s there is =
-    let spelled : AreAt words o.place (spelling a.objects o.contents) =
-    IfSome-at (λ o. AreAt words o.place (spelling a.objects o.contents)) (object_at a.objects x) o there (s.spelled x) in
-    let two : AreAt words o.place (spelling a.objects (ConsOf p q)) =
-    subst (λ (k : Contents). AreAt words o.place (spelling a.objects k)) is spelled in
-    let first : slice_index words (o.place + 0) ≡ word_of a.objects p = two 0 (omega arith) in
+    let spelled : SlotsStand a.objects words o.place o.contents =
+    IfSome-at (λ o. SlotsStand a.objects words o.place o.contents) (object_at a.objects x) o there (s.spelled x) in
+    let two : SlotsStand a.objects words o.place (ConsOf p q) =
+    subst (λ (k : Contents). SlotsStand a.objects words o.place k) is spelled in
+    let first : slice_index words (o.place + 0) ≡ word_of a.objects p = two 0 in
     let at_place : o.place + 0 ≡ o.place = omega arith in
-    (subst (λ (k : ℕ). slice_index words k ≡ word_of a.objects p) at_place first, two 1 (omega arith))
+    (subst (λ (k : ℕ). slice_index words k ≡ word_of a.objects p) at_place first, two 1)
 
 -- and the other way round
-are_two : (words : List ℕ) (from p q : ℕ) → slice_index words from ≡ p → slice_index words (from + 1) ≡ q → AreAt words from (p ∷ q ∷ [])
-are_two words from p q hp hq zero h = subst (λ (k : ℕ). slice_index words k ≡ p) (omega arith) hp
-are_two words from p q hp hq (suc zero) h = hq
-are_two words from p q hp hq (suc (suc i)) h = absurd (omega arith)
+are_two : (objects : List (Option Object)) (words : List ℕ) (from : ℕ) (p q : Value) → slice_index words from ≡ word_of objects p →
+    slice_index words (from + 1) ≡ word_of objects q → SlotsStand objects words from (ConsOf p q)
+are_two objects words from p q hp hq zero = subst (λ (k : ℕ). slice_index words k ≡ word_of objects p) (omega arith) hp
+are_two objects words from p q hp hq (suc zero) = hq
+are_two objects words from p q hp hq (suc (suc i)) = tt
 
 pub cons_spelled : (objects : List (Option Object)) (words : List ℕ) (o : Object) (p q : Value) → o.contents ≡ ConsOf p q →
     slice_index words o.place ≡ word_of objects p → slice_index words (o.place + 1) ≡ word_of objects q →
-    AreAt words o.place (spelling objects o.contents)
+    SlotsStand objects words o.place o.contents
 cons_spelled objects words o p q is hp hq =
-    subst (λ (k : Contents). AreAt words o.place (spelling objects k)) (sym is)
-    (are_two words o.place (word_of objects p) (word_of objects q) hp hq)
+    subst (λ (k : Contents). SlotsStand objects words o.place k) (sym is) (are_two objects words o.place p q hp hq)
+
+-- look-up keeps no word of a cons
+pub nothing_kept : (words : List ℕ) (from : ℕ) (contents : Contents) (p q : Value) → contents ≡ ConsOf p q → KeptStand words from contents
+nothing_kept words from contents p q is = subst (λ (k : Contents). KeptStand words from k) (sym is) (none words from p q)
+  where
+    none : (words : List ℕ) (from : ℕ) (p q : Value) → KeptStand words from (ConsOf p q)
+    none words from p q zero e = cc
+    none words from p q (suc zero) e = cc
+    none words from p q (suc (suc i)) e = cc
 
 -- where no word is left over, fillers are none
 pub no_fillers : (p : Program) (a : NamedHeap) (words : List ℕ) → IsWellFormed p a → (page i : ℕ) → i < fill_of (entry_at a.pages page) →

@@ -1,5 +1,6 @@
 -- What the words of a sound World are read as.
-use Rattle.std.proofs.Common.{◌≡◌, ℕ, ◌+◌, ◌*◌, ◌/◌, ◌%◌, ◌^◌, ◌<◌, ◌≤◌, List, length, refl, sym, ◌∙◌, subst, ap, arith, get_or, Some, None, pos, negsuc, ℤ}
+use Rattle.std.proofs.Common.{◌≡◌, ℕ, ◌+◌, ◌*◌, ◌/◌, ◌%◌, ◌^◌, ◌<◌, ◌≤◌, List, length, refl, sym, ◌∙◌, subst, ap, arith, get_or, Some, None, Option, IsSome, inl, inr, pos, negsuc, ℤ}
+use Rattle.std.proofs.lemmas.Bool.{cases_lt}
 use Rattle.std.proofs.lemmas.List.{get_or_default}
 use Rattle.std.proofs.lemmas.Option.{slice_get_past, slice_get_read}
 use Rattle.std.specs.Prelude.{slice_index, slice_get}
@@ -18,14 +19,14 @@ use Rattle.heap_terms.specs.Objects.{Object, Contents, ConsOf, kind_of, words_of
 use Rattle.heap_terms.specs.Simple.{fields_at}
 use Rattle.heap_terms.specs.Valid.{IsCell, IsFixnum}
 use Rattle.heap_terms.specs.WellFormed.{IsLiving}
-use Rattle.heap_terms.specs.Words.{word_of, word_of_object}
-use Rattle.heap_terms.proofs.Living.{cell_living}
-use Rattle.heap_terms.proofs.Places.{IfSome-at, IsSome-value}
+use Rattle.heap_terms.specs.Spelling.{word_of, word_of_object}
+use Rattle.heap_laws.proofs.AtPlaces.{IfSome-at, IsSome-value}
+use Rattle.heap_laws.proofs.SoundHeaps.{cell_living}
 use Rattle.lisp_words.specs.Tagged.{IsTagged, tag_bits}
 use Rattle.lisp_words.specs.declared.pointers.Lowtag.{Lowtag}
 use Rattle.lisp_words.specs.declared.pointers.Lowtag.TheVariants as lowtags
 use Rattle.lisp_heap.specs.CellsView.{cell_word}
-use Rattle.lisp_heap.specs.Reading.{IsWord, IsCons}
+use Rattle.lisp_heap.specs.LivingWords.{IsWord, RefersToCons}
 use Rattle.lisp_heap.specs.Sound.{IsSound, view_of}
 use Rattle.lisp_heap.specs.State.{state_of}
 use Rattle.lisp_heap.specs.View.{View, heap_of}
@@ -73,6 +74,19 @@ no_command s h t state script lt state_ok script_ok past =
     let at_place : slice_get script (thread_at (heap s) t).done ≡ None =
     subst (λ (n : ℕ). slice_get script n ≡ None) (ap (λ (x : ThreadState). x.done) known) found in
     sym (subst (λ (xs : List Command). slice_get xs (thread_at (heap s) t).done ≡ None) same_script at_place)
+
+none_there : (o : Option Command) → o ≡ None → IsSome o → ⊥
+none_there None e h = cc
+none_there (Some c) e h = cc
+
+-- a thread whose command is not done is not at the end of its script
+pub command_left : (s : Inside) → IsSound s → (t : ℕ) (state : ThreadState) (script : List Command) → t < length s.program.threads →
+    state ≡ get_or s.states t state → script ≡ get_or s.program.threads t script → IsSome (command_at s.program (heap s) t) →
+    state.done < length script
+command_left s h t state script lt state_ok script_ok there = elim (cases_lt state.done (length script)) [
+  | inl below ↦ below
+  | inr past ↦ (let none = no_command s h t state script lt state_ok script_ok past in absurd (none_there (command_at s.program (heap s) t) (sym none) there))
+]
 
 -- a cell's word is that of its living value
 pub cell_is : (s : Inside) → IsSound s → (t : ℕ) (cell : Cell) → t < length s.program.threads → IsCell cell →
@@ -198,7 +212,7 @@ pub label_there : (s : Inside) → IsSound s → (name : ℕ) (k : ConsAt s name
 label_there s h name k = omega (arith, h.holds.labels.long, h.holds.words.long, k.inside)
 
 -- a cons that was found, as the clauses say it
-pub as_cons : (s : Inside) (v : Value) (index : ℕ) (tag : Lowtag) → Found s v index tag → IsCons (heap s).objects v index
+pub as_cons : (s : Inside) (v : Value) (index : ℕ) (tag : Lowtag) → Found s v index tag → RefersToCons (heap s).objects v index
 as_cons s v index tag f = record {
   name = f.name;
   object = f.at_cons.object;
@@ -230,7 +244,7 @@ cell_lives s w h e t cell lt =
 
 -- what a cons's clause says of the World
 pub record ConsWords (s : Inside) (w : View) (v : Value) (index : ℕ) : Type 0 where
-  pub cons : IsCons (heap_of w).objects v index
+  pub cons : RefersToCons (heap_of w).objects v index
   pub inside : index + 2 ≤ length s.space
   pub small : index + 2 < 2 ^ 32
   pub first : slice_index s.space index ≡ word_of (heap_of w).objects cons.first
@@ -238,7 +252,7 @@ pub record ConsWords (s : Inside) (w : View) (v : Value) (index : ℕ) : Type 0 
   pub first_lives : IsLiving (heap_of w).objects cons.first
   pub second_lives : IsLiving (heap_of w).objects cons.second
 
-cons_words_in : (s : Inside) → IsSound s → (v : Value) (index : ℕ) → IsCons (heap s).objects v index → ConsWords s (view_of s) v index
+cons_words_in : (s : Inside) → IsSound s → (v : Value) (index : ℕ) → RefersToCons (heap s).objects v index → ConsWords s (view_of s) v index
 cons_words_in s h v index k =
     let placed = placed_at s.program (heap s) k.name k.object (well_formed s h) k.there in
     let two : words_of_object k.object ≡ 2 = cons_words k.object k.first k.second k.cons in
@@ -254,9 +268,9 @@ cons_words_in s h v index k =
       second_lives = lives.1;
     }
 
-pub cons_words_of : (s : Inside) (w : View) → IsSound s → view_of s ≡ w → (v : Value) (index : ℕ) → IsCons (heap_of w).objects v index → ConsWords s w v index
+pub cons_words_of : (s : Inside) (w : View) → IsSound s → view_of s ≡ w → (v : Value) (index : ℕ) → RefersToCons (heap_of w).objects v index → ConsWords s w v index
 cons_words_of s w h e v index k =
-    subst (λ (x : View). IsCons (heap_of x).objects v index → ConsWords s x v index) e (cons_words_in s h v index) k
+    subst (λ (x : View). RefersToCons (heap_of x).objects v index → ConsWords s x v index) e (cons_words_in s h v index) k
 
 -- a page is filled at most to its end
 pub fill_small : (s : Inside) → IsSound s → (page : ℕ) (ty : PageType) (g fill first k : ℕ) → Used ty g fill first k ≡ entry_at s.pages page → fill ≤ 512

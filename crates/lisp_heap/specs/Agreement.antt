@@ -7,10 +7,10 @@ use Rattle.heap_terms.specs.declared.pages.Next.TheVariants as nexts
 use Rattle.heap_terms.specs.Heap.{NamedHeap, thread_at, entry_at, fill_of}
 use Rattle.heap_terms.specs.Layout.{page_words}
 use Rattle.heap_terms.specs.Histories.{command_at, wish_at, wished_size}
-use Rattle.heap_terms.specs.Regions.{IsRun, IsLowestRun, pages_needed}
+use Rattle.heap_terms.specs.Regions.{IsFreeRun, IsLowestRun, pages_needed}
 use Rattle.lisp_heap.specs.declared.allocating.Lent.{Lent}
 use Rattle.lisp_heap.specs.declared.allocating.Lent.TheVariants as lents
-use Rattle.lisp_heap.specs.Parcels.{ParcelView, empty_parcel, place_of, with_cons, HasRoom, HasBuilt, IsMaking}
+use Rattle.lisp_heap.specs.ParcelView.{ParcelView, empty_parcel, place_of, with_cons, HasRoom, HasBuilt, IsMaking}
 use Rattle.lisp_heap.specs.View.{View, heap_of}
 use Rattle.lisp_heap.specs.declared.parcels.RegionPlace.{RegionPlace}
 
@@ -63,7 +63,7 @@ pub record AreFresh (parcels : List ParcelView) (threads : ℕ) : Type 0 where
 
 -- the pages that thread t's next object needs stand free side by side
 abbrev pub HasRunFor : View → ℕ → Type 0
-HasRunFor w t = (first : ℕ) × IsRun (heap_of w).pages first (pages_needed (wished_size (wish_at (command_at w.program (heap_of w) t))))
+HasRunFor w t = (first : ℕ) × IsFreeRun (heap_of w).pages first (pages_needed (wished_size (wish_at (command_at w.program (heap_of w) t))))
 
 -- what `lend` answers, by whether there is such a run
 abbrev pub Lends : View → ℕ → Lent → Type 0

@@ -3,14 +3,14 @@ use Rattle.std.specs.Prelude.{◌≡◌, []}
 use Rattle.std.specs.Option.{ForSome}
 use Rattle.heap_terms.specs.declared.kinds.PageType.{PageType}
 use Rattle.heap_terms.specs.Fresh.{fresh_contents}
-use Rattle.heap_terms.specs.Words.{spelling}
-use Rattle.lisp_heap.specs.Parcels.{RegionView}
+use Rattle.heap_terms.specs.Spelling.{spelling}
+use Rattle.lisp_heap.specs.ParcelView.{LeaseView}
 use Rattle.lisp_heap.specs.declared.parcels.Lease.{Lease}
 use Rattle.lisp_heap.specs.declared.parcels.Making.{Making}
 
 -- a region as contracts see it
-abbrev pub region_view : Lease → RegionView
-region_view l = record { ty = l.region.ty; first = l.region.first; pages = l.region.pages; next = l.region.next; built = l.built }
+abbrev pub lease_view : Lease → LeaseView
+lease_view l = record { ty = l.region.ty; first = l.region.first; pages = l.region.pages; next = l.region.next; built = l.built }
 
 -- the words of an object that is built are in the region
 abbrev pub IsBuiltThere : Lease → Making → Type 0

@@ -1,39 +1,29 @@
 -- When what a World keeps stands for a named heap.
 use Rattle.std.specs.Prelude.{◌≡◌, ℕ, ◌*◌, ◌/◌, ◌<◌, List, length, map, IfSome, slice_index, slice_index_or}
-use Rattle.heap_terms.specs.declared.pages.Entry.{Entry}
 use Rattle.heap_terms.specs.Heap.{NamedHeap, thread_at, object_at, zero_value}
 use Rattle.heap_terms.specs.Stands.{WordsStand}
-use Rattle.heap_terms.specs.Words.{word_of}
-use Rattle.lisp_heap.specs.CellsView.{CellsView, spot}
+use Rattle.heap_terms.specs.Spelling.{word_of}
+use Rattle.lisp_heap.specs.CellsView.{CellsView, cells_each, spot}
+use Rattle.lisp_heap.specs.Parts.{Parts, page_labels}
 use Rattle.lisp_heap.specs.State.{state_of}
-use Rattle.lisp_heap.specs.declared.states.ThreadState.{ThreadState}
 
 -- each cell has the word of its value
 pub record CellsStand (a : NamedHeap) (v : CellsView) : Type 0 where
-  pub stack_length : length v.stack ≡ 16 * length a.threads
-  pub exact_length : length v.exact ≡ 16 * length a.threads
-  pub shared_length : length v.shared ≡ 16
-  pub stack : (t i : ℕ) → t < length a.threads → i < 16 →
+  pub stack_length : length v.stack ≡ cells_each * length a.threads
+  pub exact_length : length v.exact ≡ cells_each * length a.threads
+  pub shared_length : length v.shared ≡ cells_each
+  pub stack : (t i : ℕ) → t < length a.threads → i < cells_each →
       slice_index v.stack (spot t i) ≡ word_of a.objects (slice_index_or (thread_at a t).stack i zero_value)
-  pub exact : (t i : ℕ) → t < length a.threads → i < 16 →
+  pub exact : (t i : ℕ) → t < length a.threads → i < cells_each →
       slice_index v.exact (spot t i) ≡ word_of a.objects (slice_index_or (thread_at a t).exact i zero_value)
-  pub shared : (i : ℕ) → i < 16 → slice_index v.shared i ≡ word_of a.objects (slice_index_or a.shared i zero_value)
+  pub shared : (i : ℕ) → i < cells_each → slice_index v.shared i ≡ word_of a.objects (slice_index_or a.shared i zero_value)
 
 -- the label at each object's first double word is its name
 pub record LabelsStand (a : NamedHeap) (labels : List ℕ) : Type 0 where
-  pub long : length labels ≡ 256 * length a.pages
+  pub long : length labels ≡ page_labels * length a.pages
   pub named : (name : ℕ) → IfSome (object_at a.objects name) (λ o. slice_index labels (o.place / 2) ≡ name)
 
--- what a World keeps beside its program and its history
-pub record Parts : Type 0 where
-  pub words : List ℕ
-  pub pages : List Entry
-  pub labels : List ℕ
-  pub cells : CellsView
-  pub states : List ThreadState
-  pub commits : ℕ
-
--- all of it stands for a named heap
+-- all that a World keeps stands for a named heap
 pub record Holds (a : NamedHeap) (v : Parts) : Type 0 where
   pub words : WordsStand a v.words
   pub pages : v.pages ≡ a.pages

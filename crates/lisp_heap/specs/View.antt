@@ -5,12 +5,15 @@ use Rattle.heap_terms.specs.declared.pages.Next.{Next}
 use Rattle.heap_terms.specs.declared.programs.Program.{Program}
 use Rattle.heap_terms.specs.Heap.{NamedHeap}
 use Rattle.heap_terms.specs.Histories.{replay, next}
+use Rattle.lisp_heap.specs.Parts.{Parts}
 
--- A World as its program and its history: the named heap is the replay of the history, and the words, pages,
--- cells and labels that the World keeps stand for it.
+-- A World as its program, its history, and what it keeps: its words, pages, labels, cells, the places and the open
+-- regions of its threads, and the number of its commits. The named heap is the replay of the history, and what the
+-- World keeps stands for it.
 pub record View : Type 0 where
   pub program : Program
   pub history : List Event
+  pub parts : Parts
 
 -- the named heap for which a World stands
 abbrev pub heap_of : View → NamedHeap

@@ -10,16 +10,14 @@ ghost use Rattle.heap_terms.specs.declared.kinds.PageType.TheVariants as types;
 ghost use Rattle.heap_terms.specs.Regions.{HasNoRun, IsLowestRun, place_for};
 ghost use Rattle.lisp_heap.specs.Agreement.{Adopts, Agrees, IsBuiltFor, OthersAgree, Lends};
 ghost use Rattle.lisp_heap.specs.Events.{Happens};
-ghost use Rattle.lisp_heap.specs.Parcels.{ParcelView, empty_parcel, with_accepted, with_cons};
+ghost use Rattle.lisp_heap.specs.ParcelView.{ParcelView, empty_parcel, with_accepted, with_cons};
 ghost use Rattle.lisp_heap.specs.View.{heap_of, next_of};
 
 use crate::parcels::Parcel;
-use crate::states::{advance, end_state, open_cons};
 use crate::world::World;
 use alloc_region::Region;
 use heap_terms::{Answer, Command, Event, Kind, Memory, Owned, PAGE_WORDS, PageType, Refusal};
 use lisp_words::tag;
-use std::alloc::Global;
 
 /// What `lend` did.
 #[derive(Clone, Copy, Debug, PartialEq, Eq)]
@@ -34,7 +32,7 @@ impl World {
     /// Opens a region for the object that the parcel's owner allocates next, or answers the
     /// command with `!exhausted` where no run of free pages is long enough. For want of memory
     /// nothing changes.
-    pub fn lend(&mut self, alloc: Global, parcel: &mut Parcel) -> Result<Lent, Memory>
+    pub fn lend(&mut self, parcel: &mut Parcel) -> Result<Lent, Memory>
         requires thread { parcel.old.owner < length self.old.program.threads }
         requires agrees { Agrees (heap_of self.old) parcel.old }
         requires opens { next_of self.old parcel.old.owner ≡ Next.Open }
@@ -55,7 +53,7 @@ impl World {
                 Ok(Lent::Exhausted)
             }
             Some(first) => {
-                let region = self.open(alloc, t, first)?;
+                let region = self.open(t, first)?;
                 parcel.adopt_cons(region);
                 Ok(Lent::Opened)
             }
@@ -71,18 +69,18 @@ impl World {
         ensures agrees { OnOk result ((q : ParcelView) → Agrees (heap_of self.old) q → Agrees (heap_of self.new) q) }
         ensures err { OnErr result (self.new ≡ self.old) }
     {
-        let command = self.command(t as usize).unwrap();
+        let command = self.current(t as usize);
         self.history.push(Event::Did {
             thread: t,
             command,
             answer: Answer::Refused(Refusal::Exhausted),
         })?;
-        advance(&mut self.states, t as usize);
+        self.states.advance(t as usize);
         Ok(())
     }
 
     /// Opens a region of conses on a free page for thread t.
-    fn open(&mut self, alloc: Global, t: u32, first: u32) -> Result<Region, Memory>
+    fn open(&mut self, t: u32, first: u32) -> Result<Region, Memory>
         requires thread { t < length self.old.program.threads }
         requires opens { next_of self.old t ≡ Next.Open }
         requires run { IsLowestRun (heap_of self.old).pages first 1 }
@@ -93,7 +91,7 @@ impl World {
         ensures err { OnErr result (self.new ≡ self.old) }
     {
         self.history.reserve(1)?;
-        let region = Region::open(alloc, PageType::Cons, first, 1)?;
+        let region = Region::open(self.alloc, PageType::Cons, first, 1)?;
         self.history
             .push(Event::Opened {
                 thread: t,
@@ -103,7 +101,7 @@ impl World {
             })
             .unwrap();
         self.pages.take_run(first, 1, PageType::Cons, 0);
-        open_cons(&mut self.states, t as usize, first);
+        self.states.open_cons(t as usize, first);
         Ok(region)
     }
 
@@ -142,7 +140,7 @@ impl World {
         ensures others { OnOk result (OthersAgree (heap_of self.old) (heap_of self.new) t) }
         ensures err { OnErr result (self.new ≡ self.old) }
     {
-        let command = self.command(t as usize).unwrap();
+        let command = self.current(t as usize);
         let Command::NewCons { d, a, b } = command else {
             unreachable!();
         };
@@ -161,7 +159,7 @@ impl World {
             .set_fill(index / PAGE_WORDS, index % PAGE_WORDS + 2);
         self.cells.write(t as usize, d, tag(index, Kind::Cons));
         self.commits += 1;
-        advance(&mut self.states, t as usize);
+        self.states.advance(t as usize);
         Ok(name)
     }
 
@@ -196,7 +194,7 @@ impl World {
     {
         self.history.push(Event::Ended { thread: t })?;
         self.cells.clear(t as usize);
-        end_state(&mut self.states, t as usize);
+        self.states.end(t as usize);
         Ok(())
     }
 }

@@ -1,14 +1,15 @@
 //! The words in the Lisp cells of all threads.
 
 ghost use Rattle.std.specs.Prelude.{◌≡◌, ◌+◌, ◌*◌, ◌<◌, ◌≤◌, ◌^◌, ℕ, length, replicate, IfOk, slice_index, slice_set};
+ghost use Rattle.heap_terms.specs.declared.limits.TheConstants.{MOST_THREADS};
 ghost use Rattle.heap_terms.specs.Valid.{IsCell};
-ghost use Rattle.lisp_heap.specs.CellsView.{cell_word, with_cell_word, with_cleared, cleared};
+ghost use Rattle.lisp_heap.specs.CellsView.{HasCells, cell_word, cells_each, cleared, with_cell_word, with_cleared, zero_cells};
 
 use heap_terms::{Cell, Memory};
 use std::alloc::Global;
 use std::marker::Model;
 
-/// How many cells of each kind a thread has.
+/// How many cells of each kind a thread has, and how many all threads share.
 const CELLS: usize = 16;
 
 /// The cells s and b of each thread, and the cells g.
@@ -38,10 +39,10 @@ fn zeros(alloc: Global, count: usize) -> Result<Vec<u64>, Memory>
     }
 }
 
-/// Puts zeros into sixteen words.
+/// Puts zeros into the cells of one thread.
 fn clear(words: &mut [u64], from: usize)
-    requires { from + 16 ≤ length words.old }
-    ensures { (t : ℕ) → from ≡ 16 * t → words.new ≡ cleared words.old t }
+    requires { from + cells_each ≤ length words.old }
+    ensures { (t : ℕ) → from ≡ cells_each * t → words.new ≡ cleared words.old t }
 {
     words[from..from + CELLS].copy_from_slice(&[0; CELLS]);
 }
@@ -49,8 +50,8 @@ fn clear(words: &mut [u64], from: usize)
 impl CellWords {
     /// The cells of so many threads, each the fixnum 0.
     pub fn new(alloc: Global, threads: usize) -> Result<CellWords, Memory>
-        requires { threads ≤ 8 }
-        ensures { IfOk result (λ cells. cells ≡ record { stack = replicate (16 * threads) 0; exact = replicate (16 * threads) 0; shared = replicate 16 0 }) }
+        requires { threads ≤ MOST_THREADS }
+        ensures { IfOk result (λ cells. cells ≡ zero_cells threads) }
     {
         Ok(CellWords {
             stack: zeros(alloc, CELLS * threads)?,
@@ -60,11 +61,10 @@ impl CellWords {
     }
 
     /// The word in a cell of thread t.
+    #[inline(always)]
     pub fn read(&self, t: usize, cell: Cell) -> u64
         requires cell { IsCell cell }
-        requires stack { 16 * t + 16 ≤ length self.now.stack }
-        requires exact { 16 * t + 16 ≤ length self.now.exact }
-        requires shared { length self.now.shared ≡ 16 }
+        requires room { HasCells self.now t }
         ensures { result ≡ cell_word self.now t cell }
     {
         match cell {
@@ -75,11 +75,10 @@ impl CellWords {
     }
 
     /// Puts a word into a cell of thread t.
+    #[inline(always)]
     pub fn write(&mut self, t: usize, cell: Cell, word: u64)
         requires cell { IsCell cell }
-        requires stack { 16 * t + 16 ≤ length self.old.stack }
-        requires exact { 16 * t + 16 ≤ length self.old.exact }
-        requires shared { length self.old.shared ≡ 16 }
+        requires room { HasCells self.old t }
         ensures { self.new ≡ with_cell_word self.old t cell word }
     {
         match cell {
@@ -91,8 +90,7 @@ impl CellWords {
 
     /// Clears thread t's own cells.
     pub fn clear(&mut self, t: usize)
-        requires stack { 16 * t + 16 ≤ length self.old.stack }
-        requires exact { 16 * t + 16 ≤ length self.old.exact }
+        requires { HasCells self.old t }
         ensures { self.new ≡ with_cleared self.old t }
     {
         clear(self.stack.as_mut_slice(), CELLS * t);

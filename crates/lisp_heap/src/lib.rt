@@ -3,18 +3,20 @@
 //! that what the World keeps stands for the named heap which that history leaves.
 #![tactic(auto)]
 
+mod agreement;
 mod allocating;
 mod cells;
-mod making;
-mod outcome;
+mod new_world;
 mod parcels;
+mod plan;
 mod reading;
 mod states;
-#[cfg(test)]
-mod tests;
 mod world;
 
 pub use allocating::Lent;
 pub use heap_terms::Next;
 pub use parcels::Parcel;
 pub use world::World;
+
+#[cfg(test)]
+mod tests;

@@ -5,10 +5,10 @@ ghost use Rattle.std.specs.Option.{ForSome};
 ghost use Rattle.heap_terms.specs.declared.kinds.Kind.TheVariants as kinds;
 ghost use Rattle.heap_terms.specs.declared.kinds.PageType.{PageType};
 ghost use Rattle.heap_terms.specs.declared.kinds.PageType.TheVariants as types;
-ghost use Rattle.heap_terms.specs.Layout.{page_type_of, size_of};
+ghost use Rattle.heap_terms.specs.Layout.{page_type_of, page_words, size_of};
 ghost use Rattle.heap_terms.specs.Regions.{is_small};
-ghost use Rattle.lisp_heap.specs.Leases.{region_view, IsLease, IsSmallLease};
-ghost use Rattle.lisp_heap.specs.Parcels.{Fits, HasRoom, HasBuilt, IsMaking, RegionView, empty_parcel, one_if, place_of, region_built, regions_in, small_region, with_accepted, with_built, with_cons};
+ghost use Rattle.lisp_heap.specs.Leases.{lease_view, IsLease, IsSmallLease};
+ghost use Rattle.lisp_heap.specs.ParcelView.{Fits, HasRoom, HasBuilt, IsMaking, LeaseView, empty_parcel, one_if, place_of, region_built, regions_in, small_region, with_accepted, with_built, with_cons};
 
 use alloc_region::Region;
 use heap_terms::{Kind, Owned, PAGE_WORDS, PageType};
@@ -54,7 +54,7 @@ pub struct Parcel {
 }
 
 impl Model for Parcel {
-    ghost use Rattle.lisp_heap.specs.Parcels.{ParcelView};
+    ghost use Rattle.lisp_heap.specs.ParcelView.{ParcelView};
 
     ghost Value = { ParcelView };
 
@@ -86,7 +86,7 @@ fn is_small_object(kind: Kind, n: u32) -> bool
 
 /// Spends a region, and says how many that were.
 fn put_back(slot: Option<Lease>) -> u32
-    ensures { result ≡ one_if (option_map region_view slot) }
+    ensures { result ≡ one_if (option_map lease_view slot) }
 {
     match slot {
         None => 0,
@@ -100,10 +100,10 @@ fn put_back(slot: Option<Lease>) -> u32
 /// Builds an object in the region of a slot.
 fn build_in(slot: &mut Option<Lease>, making: Making)
     requires there { IsSome slot.old }
-    requires fits { ForSome slot.old (λ l. Fits making.kind making.n (region_view l)) }
+    requires fits { ForSome slot.old (λ l. Fits making.kind making.n (lease_view l)) }
     requires ty { ForSome slot.old (λ l. l.region.ty ≡ page_type_of making.kind) }
     requires making { IsMaking making.kind making.n making.seed }
-    ensures view { option_map region_view slot.new ≡ option_map (region_built making) (option_map region_view slot.old) }
+    ensures view { option_map lease_view slot.new ≡ option_map (region_built making) (option_map lease_view slot.old) }
     ensures lease { ForSome slot.new IsLease }
     ensures small { (ty : PageType) → ForSome slot.old (IsSmallLease ty) → ForSome slot.new (IsSmallLease ty) }
 {
@@ -115,7 +115,7 @@ fn build_in(slot: &mut Option<Lease>, making: Making)
 
 /// Whether just this object is built in the region of a slot.
 fn has_built_in(slot: &Option<Lease>, making: Making) -> bool
-    ensures { IsTrue result ↔ IsSomeAnd (option_map region_view slot.now) (λ r. r.built ≡ Some making) }
+    ensures { IsTrue result ↔ IsSomeAnd (option_map lease_view slot.now) (λ r. r.built ≡ Some making) }
 {
     match slot {
         None => false,
@@ -125,7 +125,7 @@ fn has_built_in(slot: &Option<Lease>, making: Making) -> bool
 
 /// Where the region of a slot lies.
 fn place(slot: &Option<Lease>) -> Option<RegionPlace>
-    ensures { result ≡ option_map place_of (option_map region_view slot.now) }
+    ensures { result ≡ option_map place_of (option_map lease_view slot.now) }
 {
     match slot {
         None => None,
@@ -221,7 +221,7 @@ impl Parcel {
     /// Where the next cons begins, an index in words.
     pub(crate) fn next_cons(&self) -> u32
         requires { IsSome self.now.cons }
-        ensures { (r : RegionView) → self.now.cons ≡ Some r → result ≡ r.next }
+        ensures { (r : LeaseView) → self.now.cons ≡ Some r → result ≡ r.next }
     {
         match &self.cons {
             None => unreachable!(),
@@ -233,7 +233,7 @@ impl Parcel {
     pub(crate) fn adopt_cons(&mut self, region: Region)
         requires ty { region.ty ≡ types.Cons }
         requires pages { region.pages ≡ 1 }
-        requires next { region.next ≡ 512 * region.first }
+        requires next { region.next ≡ page_words * region.first }
         ensures { self.new ≡ with_cons self.old region.first }
     {
         let old = self.cons.replace(Lease {

@@ -10,21 +10,21 @@ ghost use Rattle.heap_terms.specs.Cells.{cell_value};
 ghost use Rattle.heap_terms.specs.Histories.{command_at};
 ghost use Rattle.heap_terms.specs.Valid.{IsCell, IsFixnum};
 ghost use Rattle.heap_terms.specs.WellFormed.{IsLiving};
-ghost use Rattle.heap_terms.specs.Words.{word_of};
-ghost use Rattle.lisp_heap.specs.Outcome.{IsOutcome};
-ghost use Rattle.lisp_heap.specs.Reading.{IsWord, IsConsAt};
+ghost use Rattle.heap_terms.specs.Spelling.{word_of};
+ghost use Rattle.lisp_heap.specs.Plan.{IsPlan};
+ghost use Rattle.lisp_heap.specs.LivingWords.{IsWord, IsConsAt};
 ghost use Rattle.lisp_heap.specs.View.{heap_of, next_of};
 
-use crate::outcome::{Change, Outcome};
+use crate::plan::{Change, Plan};
 use crate::world::World;
 use heap_terms::{Answer, Cell, Command, Refusal, Value};
 use lisp_words::{Lowtag, fixnum, read_fixnum, untag};
 
-/// An outcome that changes nothing.
-fn refused(refusal: Refusal) -> Outcome
+/// A plan that changes nothing.
+fn refused(refusal: Refusal) -> Plan
     ensures { result ≡ record { answer = Answer.Refused refusal; change = Change.Nothing } }
 {
-    Outcome {
+    Plan {
         answer: Answer::Refused(refusal),
         change: Change::Nothing,
     }
@@ -70,39 +70,42 @@ impl World {
     }
 
     /// `fix`.
-    fn fixed(&self, t: usize, d: Cell, n: i64) -> Outcome
+    #[inline(always)]
+    pub(crate) fn fixed(&self, t: usize, d: Cell, n: i64) -> Plan
         requires d { IsCell d }
         requires n { IsFixnum n }
-        ensures { IsOutcome (heap_of self.now) t (commands.Fix d n) result.answer result.change }
+        ensures { IsPlan (heap_of self.now) t (commands.Fix d n) result.answer result.change }
     {
         let word = fixnum(n).unwrap();
-        Outcome {
+        Plan {
             answer: Answer::Done,
             change: Change::InCell { cell: d, word },
         }
     }
 
     /// `show`.
-    fn shown(&self, t: usize, c: Cell) -> Outcome
+    #[inline(always)]
+    pub(crate) fn shown(&self, t: usize, c: Cell) -> Plan
         requires thread { t < length self.now.program.threads }
         requires c { IsCell c }
-        ensures { IsOutcome (heap_of self.now) t (commands.Show c) result.answer result.change }
+        ensures { IsPlan (heap_of self.now) t (commands.Show c) result.answer result.change }
     {
         // Looked into here, so that what follows may use what a World keeps true.
         let _cells = &self.cells;
         let word = self.cell(t, c);
-        Outcome {
+        Plan {
             answer: Answer::Val(self.value_of(word)),
             change: Change::Nothing,
         }
     }
 
     /// `get`.
-    fn got(&self, t: usize, d: Cell, c: Cell, i: u32) -> Outcome
+    #[inline(always)]
+    pub(crate) fn got(&self, t: usize, d: Cell, c: Cell, i: u32) -> Plan
         requires thread { t < length self.now.program.threads }
         requires d { IsCell d }
         requires c { IsCell c }
-        ensures { IsOutcome (heap_of self.now) t (commands.Get d c i) result.answer result.change }
+        ensures { IsPlan (heap_of self.now) t (commands.Get d c i) result.answer result.change }
     {
         // Looked into here, so that what follows may use what a World keeps true.
         let _space = &self.space;
@@ -114,18 +117,19 @@ impl World {
             return refused(Refusal::OutOfRange);
         }
         let word = self.space.read(index + i);
-        Outcome {
+        Plan {
             answer: Answer::Val(self.value_of(word)),
             change: Change::InCell { cell: d, word },
         }
     }
 
     /// `put`.
-    fn put(&self, t: usize, c: Cell, i: u32, a: Cell) -> Outcome
+    #[inline(always)]
+    pub(crate) fn put(&self, t: usize, c: Cell, i: u32, a: Cell) -> Plan
         requires thread { t < length self.now.program.threads }
         requires c { IsCell c }
         requires a { IsCell a }
-        ensures { IsOutcome (heap_of self.now) t (commands.Put c i a) result.answer result.change }
+        ensures { IsPlan (heap_of self.now) t (commands.Put c i a) result.answer result.change }
     {
         // Looked into here, so that what follows may use what a World keeps true.
         let _space = &self.space;
@@ -137,30 +141,12 @@ impl World {
             return refused(Refusal::OutOfRange);
         }
         let word = self.cell(t, a);
-        Outcome {
+        Plan {
             answer: Answer::Done,
             change: Change::InSpace {
                 index: index + i,
                 word,
             },
-        }
-    }
-
-    /// What thread t's command does, which allocates nothing.
-    pub(crate) fn outcome(&self, t: usize, command: Command) -> Outcome
-        requires thread { t < length self.now.program.threads }
-        requires command { command_at self.now.program (heap_of self.now) t ≡ Some command }
-        requires simple { next_of self.now t ≡ Next.Simple }
-        ensures { IsOutcome (heap_of self.now) t command result.answer result.change }
-    {
-        // Looked into here, so that what follows may use what a World keeps true.
-        let _program = &self.program;
-        match command {
-            Command::Fix { d, n } => self.fixed(t, d, n),
-            Command::Show { c } => self.shown(t, c),
-            Command::Get { d, c, i } => self.got(t, d, c, i),
-            Command::Put { c, i, a } => self.put(t, c, i, a),
-            _ => unreachable!(),
         }
     }
 }

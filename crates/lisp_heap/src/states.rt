@@ -1,11 +1,12 @@
 //! What the World keeps of each thread beside its cells.
 
-ghost use Rattle.std.specs.Prelude.{◌≡◌, ◌+◌, ◌<◌, ◌^◌, length, slice_get, replicate, IfOk};
+ghost use Rattle.std.specs.Prelude.{◌≡◌, ◌+◌, ◌<◌, ◌^◌, length, slice_get, slice_index_or, replicate, IfOk};
 ghost use Rattle.std.specs.Option.{ForSome};
 ghost use Rattle.lisp_heap.specs.State.{advanced, fresh_state, state_page, with_cons_open, with_ended};
 
-use heap_terms::{Memory, PageType, Seq};
+use heap_terms::{Memory, PageType};
 use std::alloc::Global;
+use std::marker::Model;
 
 /// How many of its commands a thread has done, whether it has ended, its open page of each type,
 /// and the first page of its open run.
@@ -26,7 +27,19 @@ pub struct ThreadState {
 }
 
 /// The states of all threads.
-pub type States = Seq<ThreadState>;
+#[derive(Drop)]
+pub struct States {
+    states: Vec<ThreadState>,
+}
+
+impl Model for States {
+    ghost use Rattle.std.specs.Prelude.{List};
+    ghost use Rattle.lisp_heap.specs.declared.states.ThreadState.{ThreadState};
+
+    ghost Value = { List ThreadState };
+
+    ghost view = { λ s. s.states.items };
+}
 
 impl ThreadState {
     /// The state of a thread before its first event.
@@ -55,60 +68,60 @@ impl ThreadState {
     }
 }
 
-/// The states of so many threads before their first events.
-pub fn fresh_states(alloc: Global, threads: usize) -> Result<States, Memory>
-    ensures { IfOk result (λ states. states ≡ replicate threads fresh_state) }
-{
-    let mut states = Vec::new(alloc);
-    match states.resize(threads, ThreadState::fresh()) {
-        Ok(()) => Ok(Seq::from_vec(states)),
-        Err(_) => Err(Memory),
+impl States {
+    /// The states of so many threads before their first events.
+    pub fn fresh(alloc: Global, threads: usize) -> Result<States, Memory>
+        ensures { IfOk result (λ states. states ≡ replicate threads fresh_state) }
+    {
+        let mut states = Vec::new(alloc);
+        match states.resize(threads, ThreadState::fresh()) {
+            Ok(()) => Ok(States { states }),
+            Err(_) => Err(Memory),
+        }
     }
-}
 
-/// One thread is one command further in its script.
-pub fn advance(states: &mut States, t: usize)
-    requires thread { t < length states.old }
-    requires room { ForSome (slice_get states.old t) (λ state. state.done + 1 < 2 ^ 64) }
-    ensures { states.new ≡ advanced states.old t }
-{
-    let state = states.at(t);
-    states.set(
-        t,
-        ThreadState {
-            done: state.done + 1,
-            ..state
-        },
-    );
-}
+    /// How many threads there are.
+    pub fn len(&self) -> usize
+        ensures { result ≡ length self.now }
+    {
+        self.states.len()
+    }
 
-/// A page of conses is open for one thread from now on.
-pub fn open_cons(states: &mut States, t: usize, page: u32)
-    requires { t < length states.old }
-    ensures { states.new ≡ with_cons_open states.old t page }
-{
-    let state = states.at(t);
-    states.set(
-        t,
-        ThreadState {
-            cons_page: Some(page),
-            ..state
-        },
-    );
-}
+    /// The state of one thread.
+    pub fn at(&self, t: usize) -> ThreadState
+        requires { t < length self.now }
+        ensures { result ≡ slice_index_or self.now t result }
+    {
+        self.states[t]
+    }
 
-/// One thread has ended.
-pub fn end_state(states: &mut States, t: usize)
-    requires { t < length states.old }
-    ensures { states.new ≡ with_ended states.old t }
-{
-    let state = states.at(t);
-    states.set(
-        t,
-        ThreadState {
-            done: state.done,
+    /// One thread is one command further in its script.
+    #[inline(always)]
+    pub fn advance(&mut self, t: usize)
+        requires thread { t < length self.old }
+        requires room { ForSome (slice_get self.old t) (λ state. state.done + 1 < 2 ^ 64) }
+        ensures { self.new ≡ advanced self.old t }
+    {
+        self.states[t].done += 1;
+    }
+
+    /// A page of conses is open for one thread from now on.
+    pub fn open_cons(&mut self, t: usize, page: u32)
+        requires { t < length self.old }
+        ensures { self.new ≡ with_cons_open self.old t page }
+    {
+        self.states[t].cons_page = Some(page);
+    }
+
+    /// One thread has ended.
+    pub fn end(&mut self, t: usize)
+        requires { t < length self.old }
+        ensures { self.new ≡ with_ended self.old t }
+    {
+        self.states[t] = ThreadState {
+            done: self.states[t].done,
             ended: true,
             ..ThreadState::fresh()
-        },
-    );
+        };
+    }
 }

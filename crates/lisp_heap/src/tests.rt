@@ -121,19 +121,14 @@ fn only(rt: &impl Abort, mut parcels: Vec<Parcel>) -> Parcel {
 }
 
 /// One turn of the parcel's owner.
-fn turn(
-    rt: &impl Abort,
-    alloc: Global,
-    world: &mut World,
-    parcel: &mut Parcel,
-) -> Result<(), Memory> {
+fn turn(rt: &impl Abort, world: &mut World, parcel: &mut Parcel) -> Result<(), Memory> {
     let t = parcel.owner();
     assert!(rt; t < world.threads());
     assert!(rt; world.agrees(parcel));
     match world.next(t) {
         Next::Simple => world.perform(t),
         Next::Open => {
-            assert_eq!(rt; world.lend(alloc, parcel)?, Lent::Opened);
+            assert_eq!(rt; world.lend(parcel)?, Lent::Opened);
             Ok(())
         }
         Next::Build { kind, n, seed } => {
@@ -149,14 +144,9 @@ fn turn(
 }
 
 /// The nine turns of the script.
-fn turns(
-    rt: &impl Abort,
-    alloc: Global,
-    world: &mut World,
-    parcel: &mut Parcel,
-) -> Result<(), Memory> {
+fn turns(rt: &impl Abort, world: &mut World, parcel: &mut Parcel) -> Result<(), Memory> {
     for _ in 0..9 {
-        turn(rt, alloc, world, parcel)?;
+        turn(rt, world, parcel)?;
     }
     Ok(())
 }
@@ -176,7 +166,7 @@ fn a_script_of_one_cons(rt: HostRuntime) -> Result<(), Memory> {
     let mut parcel = only(&rt, parcels);
     crosses_threads(&parcel);
     assert!(rt; !parcel.has_built(Kind::Cons, 2, 0));
-    let ran = turns(&rt, alloc, &mut world, &mut parcel);
+    let ran = turns(&rt, &mut world, &mut parcel);
     assert_eq!(rt; parcel.put_away(), 0);
     ran?;
     crosses_threads(&world);

@@ -1,22 +1,25 @@
 //! The World.
 
-ghost use Rattle.std.specs.Prelude.{◌≡◌, ◌↔◌, ◌<◌, ℕ, [], length, IsTrue, OnOk, OnErr, IfOk};
+ghost use Rattle.std.specs.Prelude.{◌≡◌, ◌↔◌, ◌<◌, ℕ, [], length, IsSome, IsTrue, OnOk, OnErr, Some};
 ghost use Rattle.std.specs.Option.{ForSome};
 ghost use Rattle.heap_terms.specs.Heap.{thread_at};
 ghost use Rattle.heap_terms.specs.Regions.{wish_of, page_has_room};
 ghost use Rattle.heap_terms.specs.declared.pages.Next.{Next};
 ghost use Rattle.heap_terms.specs.Histories.{Lawful, command_at, next_for};
 ghost use Rattle.heap_terms.specs.Valid.{IsValid};
+ghost use Rattle.heap_terms.specs.WellFormed.{IsWellFormed};
 ghost use Rattle.lisp_heap.specs.Agreement.{Agrees, CanBuild};
 ghost use Rattle.lisp_heap.specs.Events.{Happens};
-ghost use Rattle.lisp_heap.specs.Parcels.{ParcelView};
+ghost use Rattle.lisp_heap.specs.ParcelView.{ParcelView};
+ghost use Rattle.lisp_heap.specs.Plan.{IsPlan};
+ghost use Rattle.lisp_heap.specs.Standing.{Holds};
 ghost use Rattle.lisp_heap.specs.State.{state_of};
 ghost use Rattle.lisp_heap.specs.Wishes.{Wishes};
 ghost use Rattle.lisp_heap.specs.View.{heap_of, next_of};
 
 use crate::cells::CellWords;
-use crate::outcome::{Outcome, apply};
-use crate::states::{States, ThreadState, advance};
+use crate::plan::{Plan, apply};
+use crate::states::{States, ThreadState};
 use heap_terms::{Command, Entry, Event, Kind, Memory, Next, PAGE_WORDS, Program};
 use page_table::PageTable;
 use std::alloc::Global;
@@ -26,6 +29,8 @@ use word_space::{Prefilled, Space};
 /// A script's heap: its words, pages, cells and history.
 #[derive(Drop)]
 pub struct World {
+    /// Regions are opened with it.
+    pub(crate) alloc: Global,
     pub(crate) program: Program,
     pub(crate) space: Space,
     pub(crate) pages: PageTable,
@@ -65,17 +70,20 @@ impl World {
         &self.program
     }
 
-    /// What has happened so far: a lawful history of a valid program. It takes no memory.
+    /// What has happened so far: a lawful history of a valid program. What the World keeps stands
+    /// for the heap that it leaves. It takes no memory.
     pub fn history(&self) -> &[Event]
         ensures history { result.now ≡ self.now.history }
         ensures lawful { Lawful self.now.program self.now.history }
         ensures valid { IsValid self.now.program }
+        ensures stands { Holds (heap_of self.now) self.now.parts }
+        ensures well_formed { IsWellFormed self.now.program (heap_of self.now) }
     {
         self.history.as_slice()
     }
 
     /// The command at thread t's place in its script.
-    pub(crate) fn command(&self, t: usize) -> Option<Command>
+    fn command(&self, t: usize) -> Option<Command>
         requires { t < length self.now.program.threads }
         ensures { result ≡ command_at self.now.program (heap_of self.now) t }
     {
@@ -86,6 +94,16 @@ impl World {
         } else {
             None
         }
+    }
+
+    /// The command at thread t's place in its script, which is not done yet.
+    #[inline(always)]
+    pub(crate) fn current(&self, t: usize) -> Command
+        requires thread { t < length self.now.program.threads }
+        requires there { IsSome (command_at self.now.program (heap_of self.now) t) }
+        ensures { command_at self.now.program (heap_of self.now) t ≡ Some result }
+    {
+        self.program.threads.item(t).at(self.states.at(t).done)
     }
 
     /// What thread t does next. Where it builds an object, every parcel of t that agrees has room
@@ -149,15 +167,50 @@ impl World {
         ensures others { OnOk result ((q : ParcelView) → Agrees (heap_of self.old) q → Agrees (heap_of self.new) q) }
         ensures err { OnErr result (self.new ≡ self.old) }
     {
-        let command = self.command(t as usize).unwrap();
-        let Outcome { answer, change } = self.outcome(t as usize, command);
+        // Looked into here, so that what follows may use what a World keeps true.
+        let _program = &self.program;
+        let command = self.current(t as usize);
+        // Each command has a way of its own to the history, so that its entry is built once.
+        match command {
+            Command::Fix { d, n } => {
+                let plan = self.fixed(t as usize, d, n);
+                self.carry_out(t, command, plan)
+            }
+            Command::Show { c } => {
+                let plan = self.shown(t as usize, c);
+                self.carry_out(t, command, plan)
+            }
+            Command::Get { d, c, i } => {
+                let plan = self.got(t as usize, d, c, i);
+                self.carry_out(t, command, plan)
+            }
+            Command::Put { c, i, a } => {
+                let plan = self.put(t as usize, c, i, a);
+                self.carry_out(t, command, plan)
+            }
+            _ => unreachable!(),
+        }
+    }
+
+    /// Thread t's command is answered, and the word that it changes is written.
+    #[inline(always)]
+    fn carry_out(&mut self, t: u32, command: Command, plan: Plan) -> Result<(), Memory>
+        requires thread { t < length self.old.program.threads }
+        requires command { command_at self.old.program (heap_of self.old) t ≡ Some command }
+        requires simple { next_of self.old t ≡ Next.Simple }
+        requires plan { IsPlan (heap_of self.old) t command plan.answer plan.change }
+        ensures ok { OnOk result (Happens t self.old self.new) }
+        ensures others { OnOk result ((q : ParcelView) → Agrees (heap_of self.old) q → Agrees (heap_of self.new) q) }
+        ensures err { OnErr result (self.new ≡ self.old) }
+    {
+        let Plan { answer, change } = plan;
         self.history.push(Event::Did {
             thread: t,
             command,
             answer,
         })?;
         apply(&mut self.cells, &mut self.space, t as usize, change);
-        advance(&mut self.states, t as usize);
+        self.states.advance(t as usize);
         Ok(())
     }
 }

@@ -2,6 +2,7 @@
 
 ghost use Rattle.std.specs.Prelude.{◌≡◌, ◌≢◌, ◌≤◌, ◌<◌, ◌^◌, ℕ, IfSome, IsNone};
 ghost use Rattle.heap_terms.specs.declared.kinds.Kind.{Kind};
+ghost use Rattle.heap_terms.specs.declared.limits.TheConstants.{MOST_ELEMENTS};
 ghost use Rattle.heap_terms.specs.Layout.{header_of, kind_byte_of, page_type_of, size_of as words_of};
 ghost use Rattle.lisp_words.specs.Tagged.{IsHeader};
 
@@ -64,7 +65,7 @@ pub fn read_header(word: u64) -> Option<(Kind, u32)>
 /// How many words an object with n words of payload takes, n at most 65,535: 2 for a cons, else
 /// the payload and its header, rounded up to an even number. The sizes are this project's own.
 pub fn size_of(kind: Kind, n: u32) -> u32
-    requires { n ≤ 65535 }
+    requires { n ≤ MOST_ELEMENTS }
     ensures { result ≡ words_of kind n }
 {
     match kind {

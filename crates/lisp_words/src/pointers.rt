@@ -5,13 +5,10 @@ ghost use Rattle.heap_terms.specs.Layout.{reference_word, lowtag_of};
 ghost use Rattle.lisp_words.specs.declared.pointers.Lowtag.{Lowtag};
 ghost use Rattle.lisp_words.specs.Tagged.{IsTagged, tag_bits};
 
-use heap_terms::Kind;
+use heap_terms::{Kind, MOST_WORDS};
 
 /// The byte address of the word with index 0.
 const BASE: u64 = 0x10_0000_0000;
-
-/// How many words a space has at the most.
-const MOST_WORDS: u64 = 524_288;
 
 /// The low four bits of a reference, which say a little of what it refers to.
 #[derive(Clone, Copy, Debug, PartialEq, Eq)]
@@ -26,9 +23,8 @@ pub enum Lowtag {
     Other,
 }
 
-/// The word of a reference to an object of a kind that starts at an index below 524,288.
+/// The word of a reference to an object of a kind that starts at an index.
 pub fn tag(index: u32, kind: Kind) -> u64
-    requires { index < 524288 }
     ensures { result ≡ reference_word index kind }
 {
     BASE + 8 * u64::from(index) + bits(kind)
@@ -53,7 +49,7 @@ pub fn untag(word: u64) -> Option<(u32, Lowtag)>
     ensures only { (index : ℕ) (tag : Lowtag) → IsTagged word index tag → result ≡ Some (index, tag) }
     ensures none { IsNone result → (index : ℕ) (tag : Lowtag) → IsTagged word index tag → ⊥ }
 {
-    if word < BASE || word >= BASE + 8 * MOST_WORDS {
+    if word < BASE || word >= BASE + 8 * u64::from(MOST_WORDS) {
         return None;
     }
     let lowtag = lowtag_of_bits(word % 16)?;

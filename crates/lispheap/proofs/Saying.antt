@@ -2,12 +2,12 @@
 use Rattle.std.proofs.Common.{◌≡◌, ℕ, ◌<◌, ◌≤◌, ◌-◌, List, [], ◌∷◌, ◌++◌, length, take, drop, Option, Some, refl, ap, sym, ◌∙◌, inl, inr, append_assoc, arith, length-drop, take-append-drop, eq-zero-or-pos, Result, Ok, Err, OnOk, OnErr}
 use Rattle.std.specs.Prelude.{IfErr}
 use Rattle.heap_io.specs.declared.writing.Stopped.{Stopped}
-use Rattle.heap_io.specs.Streams.{Rose, Grew}
+use Rattle.heap_io.specs.Streams.{Stream, Rose, Grew}
 use Rattle.lispheap.specs.Answers.{Change, change, SaysAll, StopsWithin}
 
 -- a stream that stopped after a number of bytes stopped within the text
-pub stopped_after : (text : List ℕ) (k : ℕ) (x y : Option (List ℕ)) (f g : ℕ) → k < length text → Grew x y (take k text) → Rose f g → StopsWithin text (change x y f g)
-stopped_after text k x y f g below grew rose =
+pub stopped_after : (text : List ℕ) (k : ℕ) (x y : Stream) → k < length text → Grew x.contents y.contents (take k text) → Rose x.faults y.faults → StopsWithin text (change x y)
+stopped_after text k x y below grew rose =
     record {
       front = take k text;
       rest = drop k text;
@@ -18,10 +18,10 @@ stopped_after text k x y f g below grew rose =
     }
 
 -- the same of whatever the call that appends the text answers
-pub stopped_within : (r : Result (Unit {0}) Stopped) (text : List ℕ) (x y : Option (List ℕ)) (f g : ℕ) →
-    IfErr r (λ s. Grew x y (take s.written text)) → IfErr r (λ s. s.written < length text) → OnErr r (Rose f g) → OnErr r (StopsWithin text (change x y f g))
-stopped_within (Ok done) text x y f g grew below rose = tt
-stopped_within (Err s) text x y f g grew below rose = stopped_after text s.written x y f g below grew rose
+pub stopped_within : (r : Result (Unit {0}) Stopped) (text : List ℕ) (x y : Stream) →
+    IfErr r (λ s. Grew x.contents y.contents (take s.written text)) → IfErr r (λ s. s.written < length text) → OnErr r (Rose x.faults y.faults) → OnErr r (StopsWithin text (change x y))
+stopped_within (Ok done) text x y grew below rose = tt
+stopped_within (Err s) text x y grew below rose = stopped_after text s.written x y below grew rose
 
 -- where the first piece stopped, the whole did
 pub first_stopped : (a b : List ℕ) (c : Change) → StopsWithin a c → StopsWithin (a ++ b) c
@@ -50,20 +50,20 @@ pub grew_twice : (x y z : Option (List ℕ)) (a b : List ℕ) → Grew x y a →
 grew_twice x y z a b first second xs told = second (xs ++ a) (first xs told) ∙ ap Some (append_assoc xs a b)
 
 -- where the second piece stopped, the whole did
-pub second_stopped : (a b : List ℕ) (x y z : Option (List ℕ)) (f g h : ℕ) → f ≤ g → g ≤ h → SaysAll a (change x y f g) → StopsWithin b (change y z g h) → StopsWithin (a ++ b) (change x z f h)
-second_stopped a b x y z f g h first second said s =
+pub second_stopped : (a b : List ℕ) (x y z : Stream) → x.faults ≤ y.faults → y.faults ≤ z.faults → SaysAll a (change x y) → StopsWithin b (change y z) → StopsWithin (a ++ b) (change x z)
+second_stopped a b x y z first second said s =
     record {
       front = a ++ s.front;
       rest = s.rest;
       whole = ap (λ t. a ++ t) s.whole ∙ sym (append_assoc a s.front s.rest);
       proper = s.proper;
-      appended = grew_twice x y z a s.front said.appended s.appended;
-      rose = rose_later f g h first second s.rose;
+      appended = grew_twice x.contents y.contents z.contents a s.front said.appended s.appended;
+      rose = rose_later x.faults y.faults z.faults first second s.rose;
     }
 
 -- both pieces were said
-pub both_said : (a b : List ℕ) (x y z : Option (List ℕ)) (f g h : ℕ) → SaysAll a (change x y f g) → SaysAll b (change y z g h) → SaysAll (a ++ b) (change x z f h)
-both_said a b x y z f g h first second = record { appended = grew_twice x y z a b first.appended second.appended }
+pub both_said : (a b : List ℕ) (x y z : Stream) → SaysAll a (change x y) → SaysAll b (change y z) → SaysAll (a ++ b) (change x z)
+both_said a b x y z first second = record { appended = grew_twice x.contents y.contents z.contents a b first.appended second.appended }
 
 -- a fact holds at an error, whatever the result
 pub at_err : {A E : Type 0} {P : Type 0} (r : Result A E) → P → OnErr r P

@@ -1,32 +1,31 @@
 -- What one call of the program does: its status, what it took, what it wrote, and what it said. The statuses and
 -- their causes are this project's own.
 use Rattle.std.specs.Prelude.{◌≡◌, ◌≢◌, ℕ, ◌≤◌, ◌⊎◌, List, [], ◌∷◌, ◌++◌, length, Option, Some, None, Result, Ok, Err, if◌then◌else◌, nat_lt, codes}
-use Rattle.heap_io.specs.Streams.{Rose, GaveAll, GaveMore, GaveAtMost, Grew}
+use Rattle.heap_io.specs.Streams.{Stream, Rose, GaveAll, GaveMore, GaveAtMost, Grew}
+use Rattle.heap_terms.specs.declared.limits.TheConstants.{MOST_BYTES}
 use Rattle.heap_terms.specs.declared.programs.Program.{Program}
-use Rattle.heap_terms.specs.Reading.{read_script, Fault as ScriptFault, LineFault, LimitFault}
+use Rattle.heap_terms.specs.ScriptReading.{read_script, Fault as ScriptFault, LineFault, LimitFault}
 use Rattle.lispheap.specs.declared.faults.Fault.{Fault}
 use Rattle.lispheap.specs.declared.faults.Fault.TheVariants as faults
 use Rattle.lispheap.specs.Journals.{IsJournal}
 use Rattle.lispheap.specs.Texts.{status_of, fault_text}
 
--- what a call did to a stream: the bytes that it told and its count of faults, before the call and after it
+-- what a call did to a stream: what contracts see of it before the call and after it
 pub record Change : Type 0 where
-  pub old : Option (List ℕ)
-  pub new : Option (List ℕ)
-  pub faults_old : ℕ
-  pub faults_new : ℕ
+  pub old : Stream
+  pub new : Stream
 
-abbrev pub change : Option (List ℕ) → Option (List ℕ) → ℕ → ℕ → Change
-change old new faults_old faults_new = record { old = old; new = new; faults_old = faults_old; faults_new = faults_new }
+abbrev pub change : Stream → Stream → Change
+change old new = record { old = old; new = new }
 
 -- the stream was not touched
 pub record IsUntouched (c : Change) : Type 0 where
-  pub bytes : c.new ≡ c.old
-  pub faults : c.faults_new ≡ c.faults_old
+  pub bytes : c.new.contents ≡ c.old.contents
+  pub faults : c.new.faults ≡ c.old.faults
 
 -- the stream's count of faults rose
 abbrev pub Failed : Change → Type 0
-Failed c = Rose c.faults_old c.faults_new
+Failed c = Rose c.old.faults c.new.faults
 
 -- the words are the one form that the program knows
 abbrev pub IsReplay : List (List ℕ) → Type 0
@@ -34,23 +33,23 @@ IsReplay words = words ≡ codes "replay" ∷ []
 
 -- how many bytes of input there may be
 abbrev pub input_limit : ℕ
-input_limit = 4194304
+input_limit = MOST_BYTES
 
 -- the source was read to its end, and these were its bytes, not too many
 pub record IsInput (source : Change) (bytes : List ℕ) : Type 0 where
-  pub whole : GaveAll source.old source.new bytes
+  pub whole : GaveAll source.old.contents source.new.contents bytes
   pub within : length bytes ≤ input_limit
 
 -- more bytes were taken than there may be, or not more
 abbrev pub TookTooMany : Change → Type 0
-TookTooMany source = GaveMore source.old source.new input_limit
+TookTooMany source = GaveMore source.old.contents source.new.contents input_limit
 
 abbrev pub TookNotTooMany : Change → Type 0
-TookNotTooMany source = GaveAtMost source.old source.new input_limit
+TookNotTooMany source = GaveAtMost source.old.contents source.new.contents input_limit
 
 -- a text was appended to a stream, all of it
 pub record SaysAll (text : List ℕ) (c : Change) : Type 0 where
-  pub appended : Grew c.old c.new text
+  pub appended : Grew c.old.contents c.new.contents text
 
 -- the source was read to its end, and the journal of what its bytes say was appended
 pub record Writes (source out : Change) : Type 0 where
@@ -66,7 +65,7 @@ pub record StopsWithin (text : List ℕ) (c : Change) : Type 0 where
   pub rest : List ℕ
   pub whole : text ≡ front ++ rest
   pub proper : rest ≢ []
-  pub appended : Grew c.old c.new front
+  pub appended : Grew c.old.contents c.new.contents front
   pub rose : Failed c
 
 -- the source was read to its end, and the output stopped within the journal of what its bytes say
@@ -165,5 +164,5 @@ status_for bytes = if nat_lt input_limit (length bytes) then 6 else status_read 
 -- of the bytes, or memory ran out.
 abbrev pub IsExact : List (List ℕ) → Change → Change → ℕ → Type 0
 IsExact words source out status =
-    (bytes : List ℕ) → IsReplay words → source.old ≡ Some bytes → (¬ Failed source) → (¬ Failed out)
+    (bytes : List ℕ) → IsReplay words → source.old.contents ≡ Some bytes → (¬ Failed source) → (¬ Failed out)
     → (status ≡ status_for bytes) ⊎ (status ≡ 7)

@@ -4,7 +4,7 @@ use Rattle.heap_terms.specs.declared.events.Event.{Event}
 use Rattle.heap_terms.specs.declared.programs.Program.{Program}
 use Rattle.heap_terms.specs.declared.steps.ReplayLine.{ReplayLine}
 use Rattle.heap_terms.specs.Complete.{IsComplete}
-use Rattle.heap_terms.specs.Reading.{read_script}
+use Rattle.heap_terms.specs.ScriptReading.{read_script}
 use Rattle.heap_terms.specs.Schedules.{IsRun}
 use Rattle.heap_terms.specs.Text.{journal_text}
 

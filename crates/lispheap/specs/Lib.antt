@@ -1,4 +1,4 @@
-pub mod Room
+pub mod Buffers
 pub mod Texts
 pub mod Journals
 pub mod Answers

@@ -15,7 +15,8 @@ pub enum Fault {
     /// The words are no form that the program knows: status 2.
     #[error("usage")]
     Usage,
-    /// The input is no script. The number of the first bad line, from 1, and why it is bad: status 3.
+    /// The input is no script. The number of the first bad line, from 1, and why it is bad: status
+    /// 3.
     #[error("line {0}: {1:?}")]
     Line(u32, Why),
     /// The source failed: status 4.
@@ -64,10 +65,10 @@ impl Fault {
 /// Says what went wrong, in one line. It takes no memory.
 pub fn say<E: Sink>(err: &mut E, fault: Fault) -> Result<(), Stopped>
     ensures said { OnOk result (SaysAll (fault_text fault)
-        (change (E.contents err.old) (E.contents err.new) (E.faults err.old) (E.faults err.new))) }
+        (change (E.state err.old) (E.state err.new))) }
     ensures stopped { OnErr result (StopsWithin (fault_text fault)
-        (change (E.contents err.old) (E.contents err.new) (E.faults err.old) (E.faults err.new))) }
-    ensures counted { E.faults err.old ≤ E.faults err.new }
+        (change (E.state err.old) (E.state err.new))) }
+    ensures counted { (E.state err.old).faults ≤ (E.state err.new).faults }
 {
     match fault {
         Fault::Usage => put_text(err, b"lispheap: usage\n"),
@@ -80,38 +81,38 @@ pub fn say<E: Sink>(err: &mut E, fault: Fault) -> Result<(), Stopped>
     }
 }
 
-// Says that a line is bad.
+/// Says that a line is bad.
 fn say_line<E: Sink>(err: &mut E, n: u32, why: Why) -> Result<(), Stopped>
     ensures said { OnOk result (SaysAll (fault_text (Fault.Line n why))
-        (change (E.contents err.old) (E.contents err.new) (E.faults err.old) (E.faults err.new))) }
+        (change (E.state err.old) (E.state err.new))) }
     ensures stopped { OnErr result (StopsWithin (fault_text (Fault.Line n why))
-        (change (E.contents err.old) (E.contents err.new) (E.faults err.old) (E.faults err.new))) }
-    ensures counted { E.faults err.old ≤ E.faults err.new }
+        (change (E.state err.old) (E.state err.new))) }
+    ensures counted { (E.state err.old).faults ≤ (E.state err.new).faults }
 {
     put_text(err, b"lispheap: line ")?;
     say_number(err, n, why)
 }
 
-// Says the number of a bad line and why it is bad, and ends the line.
+/// Says the number of a bad line and why it is bad, and ends the line.
 fn say_number<E: Sink>(err: &mut E, n: u32, why: Why) -> Result<(), Stopped>
     ensures said { OnOk result (SaysAll (decimal n ++ (codes ": " ++ why_text why ++ codes "\n"))
-        (change (E.contents err.old) (E.contents err.new) (E.faults err.old) (E.faults err.new))) }
+        (change (E.state err.old) (E.state err.new))) }
     ensures stopped { OnErr result (StopsWithin (decimal n ++ (codes ": " ++ why_text why ++ codes "\n"))
-        (change (E.contents err.old) (E.contents err.new) (E.faults err.old) (E.faults err.new))) }
-    ensures counted { E.faults err.old ≤ E.faults err.new }
+        (change (E.state err.old) (E.state err.new))) }
+    ensures counted { (E.state err.old).faults ≤ (E.state err.new).faults }
 {
     let mut buffer = Buffer::new();
     put_text(err, buffer.format(n).as_bytes())?;
     say_why(err, why)
 }
 
-// Says why a line is bad, and ends the line.
+/// Says why a line is bad, and ends the line.
 fn say_why<E: Sink>(err: &mut E, why: Why) -> Result<(), Stopped>
     ensures said { OnOk result (SaysAll (codes ": " ++ why_text why ++ codes "\n")
-        (change (E.contents err.old) (E.contents err.new) (E.faults err.old) (E.faults err.new))) }
+        (change (E.state err.old) (E.state err.new))) }
     ensures stopped { OnErr result (StopsWithin (codes ": " ++ why_text why ++ codes "\n")
-        (change (E.contents err.old) (E.contents err.new) (E.faults err.old) (E.faults err.new))) }
-    ensures counted { E.faults err.old ≤ E.faults err.new }
+        (change (E.state err.old) (E.state err.new))) }
+    ensures counted { (E.state err.old).faults ≤ (E.state err.new).faults }
 {
     match why {
         Why::Word => put_text(err, b": word\n"),
@@ -123,13 +124,13 @@ fn say_why<E: Sink>(err: &mut E, why: Why) -> Result<(), Stopped>
     }
 }
 
-// Says that a limit is passed.
+/// Says that a limit is passed.
 fn say_limit<E: Sink>(err: &mut E, kind: LimitKind) -> Result<(), Stopped>
     ensures said { OnOk result (SaysAll (fault_text (Fault.Limit kind))
-        (change (E.contents err.old) (E.contents err.new) (E.faults err.old) (E.faults err.new))) }
+        (change (E.state err.old) (E.state err.new))) }
     ensures stopped { OnErr result (StopsWithin (fault_text (Fault.Limit kind))
-        (change (E.contents err.old) (E.contents err.new) (E.faults err.old) (E.faults err.new))) }
-    ensures counted { E.faults err.old ≤ E.faults err.new }
+        (change (E.state err.old) (E.state err.new))) }
+    ensures counted { (E.state err.old).faults ≤ (E.state err.new).faults }
 {
     match kind {
         LimitKind::Pages => put_text(err, b"lispheap: limit pages 1024\n"),
@@ -143,10 +144,10 @@ fn say_limit<E: Sink>(err: &mut E, kind: LimitKind) -> Result<(), Stopped>
 /// Appends a text, or stops within it. It takes no memory.
 pub(crate) fn put_text<K: Sink>(sink: &mut K, text: &[u8]) -> Result<(), Stopped>
     ensures said { OnOk result (SaysAll text.now
-        (change (K.contents sink.old) (K.contents sink.new) (K.faults sink.old) (K.faults sink.new))) }
+        (change (K.state sink.old) (K.state sink.new))) }
     ensures stopped { OnErr result (StopsWithin text.now
-        (change (K.contents sink.old) (K.contents sink.new) (K.faults sink.old) (K.faults sink.new))) }
-    ensures counted { K.faults sink.old ≤ K.faults sink.new }
+        (change (K.state sink.old) (K.state sink.new))) }
+    ensures counted { (K.state sink.old).faults ≤ (K.state sink.new).faults }
 {
     write_all(sink, text)
 }

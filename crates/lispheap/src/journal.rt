@@ -1,23 +1,28 @@
 //! The journal of a history as bytes. Each function appends to one buffer, so that no byte is
-//! copied twice. A line reserves its room at its start; the functions that write its fields say how
-//! much room they need at most.
+//! copied twice. A line reserves its room at its start; the functions that write its fields say by
+//! the names in `room` how much of it they need at most.
 
 ghost use Rattle.std.specs.Prelude.{◌≡◌, ◌+◌, ◌≤◌, ◌++◌, OnOk, IfOk, codes, decimal, flat_map};
 ghost use Rattle.heap_terms.specs.Text.{event_text, journal_text, line, field, number_field, type_text};
-ghost use Rattle.lispheap.specs.Room.{room};
 
 mod answers;
+mod buffer;
 mod commands;
 mod fields;
+mod numbers;
 mod pages;
 mod passes;
+mod room;
 
 use answers::push_answer_line;
+use buffer::Text;
 use commands::push_command;
-use fields::{push, push_number, push_number_field};
+use fields::push;
 use heap_terms::{Event, Memory, PageType};
+use numbers::{push_number, push_number_field};
 use pages::push_type;
 use passes::push_passes;
+use room::{DONE_LINE, EVENT_LINE, OPENED_LINE};
 use std::alloc::{AllocError, Global};
 
 /// How many bytes a line has in the mean. It is a guess: where it is too low, the buffer grows.
@@ -28,18 +33,18 @@ const MEAN_LINE: usize = 32;
 pub(crate) fn journal_of(alloc: Global, events: &[Event]) -> Result<Vec<u8>, Memory>
     ensures { IfOk result (λ bytes. bytes.items ≡ journal_text events.now) }
 {
-    let mut out = Vec::with_capacity(alloc, events.len().saturating_mul(MEAN_LINE))?;
+    let mut out = Text::with_capacity(alloc, events.len().saturating_mul(MEAN_LINE))?;
     push_events(&mut out, events)?;
-    out.reserve(26)?;
+    out.reserve(DONE_LINE)?;
     push(&mut out, b"done");
     push_number_field(&mut out, events.len() as u64);
     push(&mut out, b"\n");
-    Ok(out)
+    Ok(out.into_bytes())
 }
 
-// Appends the lines of events.
-fn push_events(out: &mut Vec<u8>, events: &[Event]) -> Result<(), AllocError>
-    ensures { OnOk result (out.new.items ≡ out.old.items ++ flat_map event_text events.now) }
+/// Appends the lines of events.
+fn push_events(out: &mut Text, events: &[Event]) -> Result<(), AllocError>
+    ensures { OnOk result (out.new.text ≡ out.old.text ++ flat_map event_text events.now) }
 {
     for event in events {
         push_event(out, event)?;
@@ -47,13 +52,12 @@ fn push_events(out: &mut Vec<u8>, events: &[Event]) -> Result<(), AllocError>
     Ok(())
 }
 
-// Appends the lines of an event. The room is that of a thread's number, of the longest command and
-// of the longest answer that is one line of bounded length.
+/// Appends the lines of an event.
 #[tactic(auto, unfolding(heap_terms::specs::Text::event_text))]
-fn push_event(out: &mut Vec<u8>, event: &Event) -> Result<(), AllocError>
-    ensures { OnOk result (out.new.items ≡ out.old.items ++ event_text event.now) }
+fn push_event(out: &mut Text, event: &Event) -> Result<(), AllocError>
+    ensures { OnOk result (out.new.text ≡ out.old.text ++ event_text event.now) }
 {
-    out.reserve(160)?;
+    out.reserve(EVENT_LINE)?;
     match event {
         Event::Did {
             thread,
@@ -92,10 +96,10 @@ fn push_event(out: &mut Vec<u8>, event: &Event) -> Result<(), AllocError>
     }
 }
 
-// Appends the line of an opened region.
-fn push_opened(out: &mut Vec<u8>, thread: u32, ty: PageType, first: u32, pages: u32)
-    requires { 76 ≤ room out.old }
-    ensures { out.new.items ≡ out.old.items
+/// Appends the line of an opened region.
+fn push_opened(out: &mut Text, thread: u32, ty: PageType, first: u32, pages: u32)
+    requires { OPENED_LINE ≤ out.old.room }
+    ensures { out.new.text ≡ out.old.text
         ++ line (decimal thread ++ codes " open" ++ field (type_text ty) ++ number_field first ++ number_field pages) }
 {
     push_number(out, thread as u64);

@@ -19,7 +19,7 @@ fn main(rt: HostRuntime) -> ExitCode {
     ExitCode::from(run(&rt))
 }
 
-// Hands the words after the program's name to the call that does them.
+/// Hands the words after the program's name to the call that does them.
 fn run(rt: &HostRuntime) -> u8 {
     let mut err = StdSink::new(rt.stderr());
     let Ok(words) = words(rt) else {
@@ -31,8 +31,8 @@ fn run(rt: &HostRuntime) -> u8 {
     lispheap_still(rt.alloc(), &words, &mut source, &mut out, &mut err)
 }
 
-// The words after the program's name. Where one of them is no text the answer is no words, which are
-// no form that the program knows either.
+/// The words after the program's name. Where one of them is no text the answer is no words, which
+/// are no form that the program knows either.
 fn words(rt: &HostRuntime) -> Result<Vec<String>, Memory> {
     let mut words = Vec::new(rt.alloc());
     let all = match env::args(rt) {

@@ -8,21 +8,21 @@ use std::alloc::{AllocError, Global};
 use std::process::Abort;
 use std::test::Fail;
 
-// The numbers, places and answers of the first commands.
+/// The numbers, places and answers of the first commands.
 const FIRST: &str =
     "lispheap 1\nheap 2\nthread\nfix s0 5\nfix s1 -6\ncons b0 s0 s1\nget s2 b0 0\nput b0 1 s0\nget s2 b0 1\nshow b0\nend\n";
 
 const FIRST_JOURNAL: &str =
     "0 fix s0 5 -> ok\n0 fix s1 -6 -> ok\n0 open cons 0 1\n0 cons b0 s0 s1 -> #0 @0\n0 get s2 b0 0 -> 5\n0 put b0 1 s0 -> ok\n0 get s2 b0 1 -> 5\n0 show b0 -> #0\n0 end\ndone 9\n";
 
-// Three threads share a cell, and a schedule gives turns; then they take turns from thread 0 on.
+/// Three threads share a cell, and a schedule gives turns; then they take turns from thread 0 on.
 const THREE_THREADS: &str =
     "lispheap 1\nheap 4\nthread\nfix s0 7\ncons g0 s0 s0\nget b0 g0 0\nthread\ncons b1 g0 g0\nshow b1\nthread\nshow g0\nput g0 1 g0\nschedule 0*5 2*2 1\nend\n";
 
 const THREE_THREADS_JOURNAL: &str =
     "0 fix s0 7 -> ok\n0 open cons 0 1\n0 cons g0 s0 s0 -> #0 @0\n0 get b0 g0 0 -> 7\n0 end\n2 show g0 -> #0\n2 put g0 1 g0 -> ok\n1 open cons 1 1\n1 cons b1 g0 g0 -> #1 @512\n2 end\n1 show b1 -> #1\n1 end\ndone 12\n";
 
-// What one call does: its status, what was written, and what was said.
+/// What one call does: its status, what was written, and what was said.
 #[derive(Drop)]
 struct Ended {
     status: u8,
@@ -30,7 +30,7 @@ struct Ended {
     err: MemorySink,
 }
 
-// How the streams of a call behave.
+/// How the streams of a call behave.
 #[derive(Clone, Copy)]
 struct Streams<'a> {
     // The most bytes that one call passes.
@@ -46,7 +46,7 @@ const WHOLE: Streams<'static> = Streams {
     out_fails: &[],
 };
 
-// Calls the program on words and an input.
+/// Calls the program on words and an input.
 fn outcome_of(alloc: Global, words: &[&str], input: &[u8], streams: Streams) -> Result<Ended, Fail>
     requires { 1 ≤ streams.most }
 {
@@ -63,7 +63,7 @@ fn outcome_of(alloc: Global, words: &[&str], input: &[u8], streams: Streams) -> 
     Ok(Ended { status, out, err })
 }
 
-// Calls `replay` and compares status, output and what is said.
+/// Calls `replay` and compares status, output and what is said.
 fn assert_replay(
     rt: &impl Abort,
     alloc: Global,
@@ -155,7 +155,7 @@ fn bad_lines_and_limits_are_said_by_number(rt: HostRuntime) -> Result<(), Fail> 
     Ok(())
 }
 
-// So many lines without fields.
+/// So many lines without fields.
 fn empty_lines(alloc: Global, count: usize) -> Result<Vec<u8>, AllocError> {
     vec![in alloc; b'\n'; count]
 }

@@ -7,7 +7,7 @@ use Rattle.std.proofs.lemmas.Bool.{cases_lt}
 use Rattle.heap_terms.specs.declared.pages.Entry.{Entry}
 use Rattle.heap_terms.specs.declared.pages.Entry.TheVariants as entries
 use Rattle.heap_terms.specs.Heap.{entry_at}
-use Rattle.heap_terms.specs.Regions.{is_free, IsRun, IsLowestRun, HasNoRun}
+use Rattle.heap_terms.specs.Regions.{is_free, IsFreeRun, IsLowestRun, HasNoRun}
 use Rattle.page_table.specs.declared.packed.Packed.{Packed}
 use Rattle.page_table.specs.Unpacked.{unpacked, unpacked_all}
 
@@ -16,10 +16,10 @@ pub record IsSearched (pages : List Entry) (k start p : ℕ) : Type 0 where
   pub least : start ≤ p
   pub most : p < start + k
   pub free : (i : ℕ) → start ≤ i → i < p → is_free (entry_at pages i) ≡ true
-  pub lower : (s : ℕ) → s < start → ¬ IsRun pages s k
+  pub lower : (s : ℕ) → s < start → ¬ IsFreeRun pages s k
 
 -- a run has no used page
-pub used_page : (pages : List Entry) (k s p : ℕ) → is_free (entry_at pages p) ≡ false → s ≤ p → p < s + k → ¬ IsRun pages s k
+pub used_page : (pages : List Entry) (k s p : ℕ) → is_free (entry_at pages p) ≡ false → s ≤ p → p < s + k → ¬ IsFreeRun pages s k
 used_page pages k s p used low high run = let free = run.free p low high in cc
 
 pub searched_none : (pages : List Entry) (k : ℕ) → 1 ≤ k → IsSearched pages k 0 0

@@ -3,6 +3,7 @@ use Rattle.std.specs.Prelude.{ℕ, List, map, length, ◌≤◌, Option, Some, N
 use Rattle.heap_terms.specs.declared.kinds.PageType.{PageType}
 use Rattle.heap_terms.specs.declared.pages.Entry.{Entry}
 use Rattle.heap_terms.specs.declared.pages.Entry.TheVariants as entries
+use Rattle.heap_terms.specs.declared.limits.TheConstants.{MOST_PAGES}
 use Rattle.page_table.specs.declared.packed.Packed.{Packed}
 
 -- an entry by its type: without one the page is free
@@ -20,4 +21,4 @@ unpacked_all ps = map unpacked ps
 -- a table has 1 to 1,024 pages
 pub record IsTable (ps : List Packed) : Type 0 where
   pub least : 1 ≤ length ps
-  pub most : length ps ≤ 1024
+  pub most : length ps ≤ MOST_PAGES

@@ -2,9 +2,10 @@
 
 ghost use Rattle.std.specs.Prelude.{◌≡◌, ℕ, ◌+◌, ◌*◌, ◌<◌, ◌≤◌, false, length, vec_len, replicate, slice_set, IfOk, IfSome, IfNone};
 ghost use Rattle.heap_terms.specs.declared.pages.Entry.TheVariants as entries;
+ghost use Rattle.heap_terms.specs.declared.limits.TheConstants.{MOST_PAGES};
 ghost use Rattle.heap_terms.specs.Heap.{entry_at};
 ghost use Rattle.heap_terms.specs.Layout.{page_words};
-ghost use Rattle.heap_terms.specs.Regions.{is_free, IsRun, IsLowestRun, HasNoRun, with_run, with_fill};
+ghost use Rattle.heap_terms.specs.Regions.{is_free, IsFreeRun, IsLowestRun, HasNoRun, with_run, with_fill};
 ghost use Rattle.heap_terms.specs.PageRuns.{with_run_of, with_generation, run_first_of};
 ghost use Rattle.page_table.specs.Unpacked.{unpacked_all};
 
@@ -37,7 +38,7 @@ impl PageTable {
     /// The table of 1 to 1,024 pages, all free. It is refused only for want of memory.
     pub fn new(alloc: Global, pages: u32) -> Result<PageTable, Memory>
         requires least { 1 ≤ pages }
-        requires most { pages ≤ 1024 }
+        requires most { pages ≤ MOST_PAGES }
         ensures { IfOk result (λ table. table ≡ replicate pages entries.Free) }
     {
         let mut entries = Vec::new(alloc);
@@ -51,7 +52,7 @@ impl PageTable {
     pub fn len(&self) -> u32
         ensures value { result ≡ length self.now }
         ensures least { 1 ≤ result }
-        ensures most { result ≤ 1024 }
+        ensures most { result ≤ MOST_PAGES }
     {
         self.entries.len() as u32
     }
@@ -87,7 +88,7 @@ impl PageTable {
     /// Takes a run of k free pages from `first` on: each page gets the type and the generation, is
     /// empty, and belongs to this run. Every other entry stays.
     pub fn take_run(&mut self, first: u32, k: u32, ty: PageType, generation: u8)
-        requires { IsRun self.old first k }
+        requires { IsFreeRun self.old first k }
         ensures taken { self.new ≡ with_run_of self.old first k ty generation }
         ensures opened { generation ≡ 0 → self.new ≡ with_run self.old first k ty }
     {
@@ -128,7 +129,7 @@ impl PageTable {
 /// The first of the lowest k entries side by side that are free.
 fn lowest_run(entries: &[Packed], k: u32) -> Option<u32>
     requires least { 1 ≤ k }
-    requires most { length entries.now ≤ 1024 }
+    requires most { length entries.now ≤ MOST_PAGES }
     ensures found { IfSome result (λ first. IsLowestRun (unpacked_all entries.now) first k) }
     ensures none { IfNone result (HasNoRun (unpacked_all entries.now) k) }
 {
@@ -146,7 +147,7 @@ fn lowest_run(entries: &[Packed], k: u32) -> Option<u32>
 /// Writes the entry of a page of one empty run into its k places from `first` on.
 fn fill_run(entries: &mut [Packed], first: u32, k: u32, ty: PageType, generation: u8)
     requires inside { first + k ≤ length entries.old }
-    requires most { length entries.old ≤ 1024 }
+    requires most { length entries.old ≤ MOST_PAGES }
     ensures { unpacked_all entries.new ≡ with_run_of (unpacked_all entries.old) first k ty generation }
 {
     let entry = Packed::empty(ty, generation, first, k);

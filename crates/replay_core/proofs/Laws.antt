@@ -13,15 +13,15 @@ use Rattle.heap_terms.specs.Layout.{size_of}
 use Rattle.heap_terms.specs.Regions.{Wish, Nothing, Make, wish_of, has_room}
 use Rattle.heap_terms.specs.Valid.{IsValid}
 use Rattle.heap_terms.specs.WellFormed.{IsWellFormed}
-use Rattle.heap_terms.proofs.Falling.{history_short}
-use Rattle.heap_terms.proofs.Standing.{replay-well_formed}
-use Rattle.heap_terms.proofs.Tasks as tasks
+use Rattle.heap_laws.proofs.SoundHeaps.{replay-well_formed}
+use Rattle.heap_laws.proofs.NextEvents.{history_short}
+use Rattle.heap_laws.proofs.NextEvents as nexting
 
 -- no thread owes a collection
 pub never_collects : (p : Program) (h : List Event) (t last : ℕ) → IsValid p → Lawful p h →
     next p (replay p h) t ≡ nexts.Collect last → ⊥
 never_collects p h t last valid lawful e =
-    tasks.never_collects p (replay p h) t last (replay-well_formed p h valid lawful) e
+    nexting.never_collects p (replay p h) t last (replay-well_formed p h valid lawful) e
 
 -- a history is short
 pub history_most : (p : Program) (h : List Event) → IsValid p → Lawful p h → length h < 2 ^ 32
@@ -43,7 +43,7 @@ never_done_command a t (Some c) e = never_done a t (wish_of c) e
 pub done_ended : (p : Program) (a : NamedHeap) (t : ℕ) → IsWellFormed p a → next p a t ≡ nexts.Done → (thread_at a t).ended ≡ true
 done_ended p a t w e = elim (cases_Bool (thread_at a t).ended) [
   | inl ended ↦ ended
-  | inr alive ↦ absurd (never_done_command a t (command_at p a t) (sym (tasks.next_alive p a t (w.owes_nothing t) alive) ∙ e))
+  | inr alive ↦ absurd (never_done_command a t (command_at p a t) (sym (nexting.next_alive p a t (w.owes_nothing t) alive) ∙ e))
 ]
 
 -- a lawful history is complete where each thread has nothing left to do

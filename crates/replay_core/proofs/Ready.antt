@@ -1,5 +1,5 @@
 -- The parcels of a machine: at first, and after a turn of one thread.
-use Rattle.std.proofs.Common.{◌≡◌, ℕ, ◌<◌, List, [], length, refl, sym, ◌∙◌, subst, ap, inl, inr, get_or, set, Result, Ok, Err}
+use Rattle.std.proofs.Common.{◌≡◌, ℕ, ◌<◌, List, [], length, refl, sym, ◌∙◌, subst, ap, inl, inr, get_or, set, Bool, true, false, Result, Ok, Err}
 use Rattle.std.proofs.lemmas.Bool.{cases_eq}
 use Rattle.std.proofs.lemmas.List.{get_or-set_same, get_or-set_other, length-set}
 use Rattle.std.specs.Prelude.{IfOk, OnErr}
@@ -8,25 +8,21 @@ use Rattle.heap_terms.specs.declared.events.Event.{Event}
 use Rattle.heap_terms.specs.declared.programs.Program.{Program}
 use Rattle.heap_terms.specs.Heap.{start}
 use Rattle.heap_terms.specs.Histories.{replay}
-use Rattle.heap_terms.proofs.Threading.{start_thread}
+use Rattle.heap_laws.proofs.SoundHeaps.{start_thread}
 use Rattle.lisp_heap.specs.Agreement.{Agrees, AreFresh, OthersAgree}
-use Rattle.lisp_heap.specs.Parcels.{ParcelView, empty_parcel}
+use Rattle.lisp_heap.specs.ParcelView.{ParcelView, empty_parcel}
 use Rattle.lisp_heap.specs.View.{View, heap_of}
-use Rattle.replay_core.specs.declared.machine.Stepped.{Stepped}
-use Rattle.replay_core.specs.declared.machine.Stepped.TheVariants.{Word, Happened, Waits, Ended}
 use Rattle.replay_core.specs.Parcels.{AreReady}
-use Rattle.replay_core.specs.Stepping.{Steps}
+use Rattle.replay_core.specs.Stepping.{Turns}
 
 -- a turn keeps the program
-pub Steps-program : (t : ℕ) (old new : View) (s : Stepped) → Steps t old new s → new.program ≡ old.program
-Steps-program t old new (Word line) h = absurd h
-Steps-program t old new Happened h = h.program
-Steps-program t old new Waits h = absurd h
-Steps-program t old new Ended h = ap (λ (w : View). w.program) h.1
+pub Turns-program : (t : ℕ) (old new : View) (b : Bool) → Turns t old new b → new.program ≡ old.program
+Turns-program t old new true h = h.program
+Turns-program t old new false h = ap (λ (w : View). w.program) h.1
 
-pub turn-program : (t : ℕ) (old new : View) (r : Result Stepped Memory) → IfOk r (Steps t old new) → OnErr r (new ≡ old) →
+pub turn-program : (t : ℕ) (old new : View) (r : Result Bool Memory) → IfOk r (Turns t old new) → OnErr r (new ≡ old) →
     new.program ≡ old.program
-turn-program t old new (Ok s) h k = Steps-program t old new s h
+turn-program t old new (Ok b) h k = Turns-program t old new b h
 turn-program t old new (Err e) h k = ap (λ (w : View). w.program) k
 
 -- the parcel of the thread that had the turn is written back, and the others still agree

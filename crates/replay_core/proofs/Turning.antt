@@ -12,18 +12,14 @@ use Rattle.heap_terms.specs.declared.programs.Program.{Program}
 use Rattle.heap_terms.specs.Histories.{next, replay}
 use Rattle.heap_terms.specs.Schedules.{IsTurn, AreTurns, rounds_of}
 use Rattle.lisp_heap.specs.View.{View}
-use Rattle.replay_core.specs.declared.machine.Stepped.{Stepped}
-use Rattle.replay_core.specs.declared.machine.Stepped.TheVariants.{Word, Happened, Waits, Ended}
 use Rattle.replay_core.specs.Runs.{Turned, AllDone, WasBusy}
-use Rattle.replay_core.specs.Stepping.{Steps}
-use Rattle.replay_core.proofs.Ready.{Steps-program}
+use Rattle.replay_core.specs.Stepping.{Turns}
+use Rattle.replay_core.proofs.Ready.{Turns-program}
 
--- a step is a turn
-pub Steps-turn : (t : ℕ) (old new : View) (s : Stepped) → Steps t old new s → IsTurn old.program old.history t new.history
-Steps-turn t old new (Word line) h = absurd h
-Steps-turn t old new Happened h = inr (record { event = h.event; thread = h.thread; lawful = h.lawful; history = h.history })
-Steps-turn t old new Waits h = absurd h
-Steps-turn t old new Ended h = inl (h.0, ap (λ (w : View). w.history) h.1)
+-- what a turn did, as the definition of runs has it
+pub Turns-turn : (t : ℕ) (old new : View) (b : Bool) → Turns t old new b → IsTurn old.program old.history t new.history
+Turns-turn t old new true h = inr (record { event = h.event; thread = h.thread; lawful = h.lawful; history = h.history })
+Turns-turn t old new false h = inl (h.0, ap (λ (w : View). w.history) h.1)
 
 -- the turns of two lists one after the other
 pub AreTurns-append : (p : Program) (xs ys : List ℕ) (old between new : List Event) → AreTurns p old xs between →
@@ -43,8 +39,8 @@ Turned-append xs ys a b c front rest =
 pub Turned-none : (a : View) → Turned [] a a
 Turned-none a = record { program = refl; turns = refl }
 
-pub Turned-step : (t : ℕ) (a b : View) (s : Stepped) → Steps t a b s → Turned (t ∷ []) a b
-Turned-step t a b s h = record { program = Steps-program t a b s h; turns = (b.history, Steps-turn t a b s h, refl) }
+pub Turned-step : (t : ℕ) (a b : View) (s : Bool) → Turns t a b s → Turned (t ∷ []) a b
+Turned-step t a b s h = record { program = Turns-program t a b s h; turns = (b.history, Turns-turn t a b s h, refl) }
 
 -- no turn takes anything from a history
 turn_grows : (p : Program) (t : ℕ) (old new : List Event) → IsTurn p old t new → length old ≤ length new
@@ -81,7 +77,7 @@ AreTurns-quiet p (t ∷ ts) old new turns short =
     at here there (suc i) d below = there i d (omega arith)
 
 -- one turn more
-pub Turned-push : (ts : List ℕ) (t : ℕ) (a b c : View) (s : Stepped) → Turned ts a b → Steps t b c s → Turned (ts ++ t ∷ []) a c
+pub Turned-push : (ts : List ℕ) (t : ℕ) (a b c : View) (s : Bool) → Turned ts a b → Turns t b c s → Turned (ts ++ t ∷ []) a c
 Turned-push ts t a b c s front step = Turned-append ts (t ∷ []) a b c front (Turned-step t b c s step)
 
 range-suc : (a n m : ℕ) → a + n ≡ m → range_with_len a (suc n) ≡ range_with_len a n ++ m ∷ []

@@ -1,7 +1,7 @@
 -- What a machine keeps of its parcels.
 use Rattle.std.specs.Prelude.{◌≡◌, ℕ, ◌<◌, List, length, slice_index_or}
 use Rattle.lisp_heap.specs.Agreement.{Agrees}
-use Rattle.lisp_heap.specs.Parcels.{ParcelView}
+use Rattle.lisp_heap.specs.ParcelView.{ParcelView}
 use Rattle.lisp_heap.specs.View.{View, heap_of}
 
 -- there is one parcel for each thread, by owner, and each has just the regions that are out for its owner

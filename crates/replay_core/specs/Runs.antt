@@ -1,7 +1,10 @@
 -- What many turns make of a World.
 use Rattle.std.specs.Prelude.{◌≡◌, ℕ, ◌<◌, List, ◌++◌, length, Bool, true, false}
 use Rattle.heap_terms.specs.declared.pages.Next.TheVariants.{Done}
-use Rattle.heap_terms.specs.Schedules.{AreTurns, rounds_of}
+use Rattle.heap_terms.specs.declared.events.Event.{Event}
+use Rattle.heap_terms.specs.declared.programs.Program.{Program}
+use Rattle.heap_terms.specs.declared.steps.ReplayLine.{ReplayLine}
+use Rattle.heap_terms.specs.Schedules.{AreTurns, IsRun, rounds_of}
 use Rattle.lisp_heap.specs.View.{View, next_of}
 
 -- the turns of a list of threads were done, one after the other, and the program is the same
@@ -29,3 +32,8 @@ pub record RunsWhole (old new : View) : Type 0 where
   pub rounds : ℕ
   pub turned : Turned (old.program.schedule ++ rounds_of (length old.program.threads) rounds) old new
   pub done : AllDone new
+
+-- a history is that of a run of a program, whose lines nobody keeps
+pub record RunsTo (p : Program) (h : List Event) : Type 0 where
+  pub lines : List ReplayLine
+  pub run : IsRun p lines h

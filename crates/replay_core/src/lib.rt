@@ -13,4 +13,4 @@ mod turns;
 pub use heap_terms::{ReplayLine, WordLine};
 pub use machine::{Machine, Stepped};
 pub use rounds::Lines;
-pub use runs::{Replay, run_schedule};
+pub use runs::{Replay, run_history, run_schedule};

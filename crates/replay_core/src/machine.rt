@@ -2,7 +2,7 @@
 
 ghost use Rattle.std.specs.Prelude.{◌≡◌, ◌<◌, [], length, OnErr, IfOk};
 ghost use Rattle.heap_terms.specs.Valid.{IsValid};
-ghost use Rattle.replay_core.specs.Stepping.{Steps};
+ghost use Rattle.replay_core.specs.Stepping.{Steps, Turns};
 
 use crate::turns::turn;
 use heap_terms::{Memory, Program, WordLine};
@@ -26,7 +26,6 @@ pub enum Stepped {
 /// A World with one parcel for each of its threads. It has to be spent, by
 /// [`Machine::into_world`].
 pub struct Machine {
-    alloc: Global,
     world: World,
     parcels: Vec<Parcel>,
 }
@@ -50,11 +49,7 @@ impl Machine {
         ensures history { IfOk result (λ m. m.history ≡ []) }
     {
         let (world, parcels) = World::new(alloc, program)?;
-        Ok(Machine {
-            alloc,
-            world,
-            parcels,
-        })
+        Ok(Machine { world, parcels })
     }
 
     /// The World. It takes no memory.
@@ -68,24 +63,34 @@ impl Machine {
     pub fn into_world(self) -> World
         ensures { result ≡ self }
     {
-        let Machine {
-            alloc: _alloc,
-            world,
-            parcels,
-        } = self;
+        let Machine { world, parcels } = self;
         put_away_all(parcels);
         world
     }
 
     /// One turn of thread t. For want of memory the machine is as it was, and the turn may be
     /// tried again.
+    #[inline(always)]
     pub fn step(&mut self, t: u32) -> Result<Stepped, Memory>
         requires { t < length self.old.program.threads }
         ensures ok { IfOk result (Steps t self.old self.new) }
         ensures err { OnErr result (self.new ≡ self.old) }
     {
+        if self.turn(t)? {
+            Ok(Stepped::Happened)
+        } else {
+            Ok(Stepped::Ended)
+        }
+    }
+
+    /// The same turn, with an answer of two bytes: whether something happened.
+    pub(crate) fn turn(&mut self, t: u32) -> Result<bool, Memory>
+        requires { t < length self.old.program.threads }
+        ensures ok { IfOk result (Turns t self.old self.new) }
+        ensures err { OnErr result (self.new ≡ self.old) }
+    {
         let parcel = &mut self.parcels[t as usize];
-        turn(self.alloc, &mut self.world, parcel)
+        turn(&mut self.world, parcel)
     }
 }
 

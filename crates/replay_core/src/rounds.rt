@@ -37,7 +37,7 @@ pub fn schedule_turns(machine: &mut Machine) -> Result<(), Memory>
             break;
         }
         let t = machine.world().program().schedule.at(i);
-        let _stepped = machine.step(t)?;
+        let _happened = machine.turn(t)?;
     }
     Ok(())
 }
@@ -48,7 +48,7 @@ fn each_in_turn(machine: &mut Machine) -> Result<(), Memory>
         (Turned (range_with_len 0 (length machine.old.program.threads)) machine.old machine.new) }
 {
     for t in 0..machine.world().threads() {
-        let _stepped = machine.step(t)?;
+        let _happened = machine.turn(t)?;
     }
     Ok(())
 }

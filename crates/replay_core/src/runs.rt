@@ -3,7 +3,7 @@
 ghost use Rattle.std.specs.Prelude.{◌≡◌, IfOk, OnOk};
 ghost use Rattle.heap_terms.specs.Schedules.{IsRun};
 ghost use Rattle.heap_terms.specs.Valid.{IsValid};
-ghost use Rattle.replay_core.specs.Runs.{RunsWhole};
+ghost use Rattle.replay_core.specs.Runs.{RunsTo, RunsWhole};
 
 use crate::machine::Machine;
 use crate::rounds::{Lines, event_lines, rounds, schedule_turns};
@@ -21,18 +21,32 @@ pub struct Replay {
 }
 
 /// Runs a valid program: the turns of its schedule, and then the threads 0, 1 and so on in turn,
-/// again and again, until all have ended. That the schedule decides is this project's own.
+/// again and again, until all have ended. That the schedule decides is this project's own. It keeps
+/// the lines of the run: see [`run_history`] for a run whose lines nobody asks for.
 pub fn run_schedule(alloc: Global, program: Program) -> Result<Replay, Memory>
     requires { IsValid program }
     ensures program { IfOk result (λ replay. replay.world.program ≡ program) }
     ensures run { IfOk result (λ replay. IsRun program replay.lines replay.world.history) }
 {
+    let world = run_history(alloc, program)?;
+    let lines = event_lines(alloc, world.history().len() as u32)?;
+    Ok(Replay { world, lines })
+}
+
+/// Runs a valid program in the same way, and keeps no lines: there are lines with which its history
+/// is a run of the program.
+pub fn run_history(alloc: Global, program: Program) -> Result<World, Memory>
+    requires { IsValid program }
+    ensures program { IfOk result (λ world. world.program ≡ program) }
+    ensures run { IfOk result (λ world. RunsTo program world.history) }
+{
     let mut machine = Machine::new(alloc, program)?;
     let ran = run(&mut machine);
     let world = machine.into_world();
     ran?;
-    let lines = event_lines(alloc, world.history().len() as u32)?;
-    Ok(Replay { world, lines })
+    // That its history is lawful is what the World tells with it.
+    let _history = world.history();
+    Ok(world)
 }
 
 /// All turns of a run.

@@ -1,5 +1,5 @@
--- The values of a line's fields have their forms and ranges.
-use Rattle.std.proofs.Common.{◌≡◌, ℕ, ◌<◌, Bool, true, false, cond, eqb, ltb, ◌&&◌, ◌||◌, not, List, [], ◌∷◌, ◌++◌, length, replicate, get_or, Option, Some, None, Result, Ok, Err, refl, sym, subst, arith}
+-- The meanings of a line's fields have their forms and ranges.
+use Rattle.std.proofs.Common.{◌≡◌, ℕ, ◌<◌, Bool, true, false, cond, eqb, ltb, ◌&&◌, ◌||◌, not, List, [], ◌∷◌, ◌++◌, length, replicate, get_or, Option, Some, None, Result, Ok, Err, refl, subst, arith}
 use Rattle.std.specs.Prelude.{ok_or, option_map, option_and_then}
 use Rattle.std.specs.List.{slice_split, All}
 use Rattle.std.proofs.lemmas.Bool.{and_parts, ltb-true}
@@ -9,7 +9,7 @@ use Rattle.heap_terms.specs.declared.cells.Cell.TheVariants.{Stack, Exact, Share
 use Rattle.heap_terms.specs.declared.faults.Why.{Why}
 use Rattle.heap_terms.specs.declared.faults.Why.TheVariants.{Fields, Form, Range}
 use Rattle.heap_terms.specs.Fields.{◌>>=◌, number_of, signed_of, cell_of, cell_number, ranged, between, turns_of, turns_of_parts}
-use Rattle.heap_terms.specs.Grammar.{FieldForm, LispCell, RawCell, RawWord, WeaknessWord, Number, Signed, FieldValue, CellOf, NumberOf, SignedOf, Statement, Row, value_of, values_of, as_cell, as_number, as_signed, said_by, turns_of_all}
+use Rattle.heap_terms.specs.Grammar.{FieldForm, LispCell, RawCell, RawWord, WeaknessWord, Number, Signed, Meaning, Saying, Statement, Row, meaning_of, said_of, said_by, turns_of_all}
 use Rattle.heap_terms.specs.Valid.{IsCell}
 
 bind_ok : {A B : Type 0} (r : Result A Why) (f : A → Result B Why) (y : B) → (r >>= f) ≡ Ok y → (x : A) × (r ≡ Ok x) × (f x ≡ Ok y)
@@ -66,21 +66,21 @@ cell_is (b ∷ digits) c e =
     (λ d h. chosen (eqb b 98) (option_map Exact n) _ IsCell (λ d h. made Exact n d (λ k g. number_below 16 digits k g) h)
     (λ d h. chosen (eqb b 103) (option_map Shared n) None IsCell (λ d h. made Shared n d (λ k g. number_below 16 digits k g) h) no_cell d h) d h) c e
 
--- ---- values
+-- ---- meanings
 
--- a value is what its form says
-abbrev pub Fits : FieldForm → FieldValue → Type 0
-Fits LispCell v = IsCell (as_cell v)
-Fits (Number test) v = test (as_number v) ≡ true
-Fits (Signed test) v = test (as_signed v) ≡ true
-Fits RawCell v = Unit {0}
-Fits RawWord v = Unit {0}
-Fits WeaknessWord v = Unit {0}
+-- a meaning is what its form says
+abbrev pub Fits : (form : FieldForm) → Meaning form → Type 0
+Fits LispCell c = IsCell c
+Fits (Number test) n = test n ≡ true
+Fits (Signed test) n = test n ≡ true
+Fits RawCell r = Unit {0}
+Fits RawWord w = Unit {0}
+Fits WeaknessWord w = Unit {0}
 
-abbrev pub FitAll : List FieldForm → List FieldValue → Type 0
-FitAll [] vs = Unit {0}
-FitAll (form ∷ forms) [] = ⊥
-FitAll (form ∷ forms) (v ∷ vs) = Fits form v × FitAll forms vs
+-- whatever is said of meanings that fit has a property
+abbrev pub EachSaid : (forms : List FieldForm) → Saying forms → (Statement → Type 0) → Type 0
+EachSaid [] says P = P says
+EachSaid (form ∷ forms) says P = (m : Meaning form) → Fits form m → EachSaid forms (says m) P
 
 abbrev done : {A : Type 0} → A → Result A Why
 done x = Ok x
@@ -88,34 +88,25 @@ done x = Ok x
 is_ok : {A : Type 0} (x y : A) → done x ≡ done y → x ≡ y
 is_ok x y e = cc
 
-value_fits : (form : FieldForm) (field : List ℕ) (v : FieldValue) → value_of form field ≡ Ok v → Fits form v
-value_fits LispCell field v e =
-    let b = bind_ok (ok_or (cell_of field) Form) (λ c. Ok (CellOf c)) v e in
-    subst (λ (w : FieldValue). IsCell (as_cell w)) (is_ok (CellOf b.0) v b.2) (cell_is field b.0 (some_from_ok (cell_of field) Form b.0 b.1))
-value_fits (Number test) field v e =
-    let b = bind_ok (ranged test (number_of field)) (λ n. Ok (NumberOf n)) v e in
-    subst (λ (w : FieldValue). test (as_number w) ≡ true) (is_ok (NumberOf b.0) v b.2) (ranged_ok test (number_of field) b.0 b.1)
-value_fits (Signed test) field v e =
-    let b = bind_ok (ranged test (signed_of field)) (λ n. Ok (SignedOf n)) v e in
-    subst (λ (w : FieldValue). test (as_signed w) ≡ true) (is_ok (SignedOf b.0) v b.2) (ranged_ok test (signed_of field) b.0 b.1)
-value_fits RawCell field v e = tt
-value_fits RawWord field v e = tt
-value_fits WeaknessWord field v e = tt
+meaning_fits : (form : FieldForm) (field : List ℕ) (m : Meaning form) → meaning_of form field ≡ Ok m → Fits form m
+meaning_fits LispCell field c e = cell_is field c (some_from_ok (cell_of field) Form c e)
+meaning_fits (Number test) field n e = ranged_ok test (number_of field) n e
+meaning_fits (Signed test) field n e = ranged_ok test (signed_of field) n e
+meaning_fits RawCell field r e = tt
+meaning_fits RawWord field w e = tt
+meaning_fits WeaknessWord field w e = tt
 
-values_fit : (forms : List FieldForm) (fs : List (List ℕ)) (vs : List FieldValue) → values_of forms fs ≡ Ok vs → FitAll forms vs
-values_fit [] fs vs e = tt
-values_fit (form ∷ forms) [] vs e = absurd cc
-values_fit (form ∷ forms) (f ∷ fs) vs e =
-    let one = bind_ok (value_of form f) (λ v. values_of forms fs >>= λ more. Ok (v ∷ more)) vs e in
-    let two = bind_ok (values_of forms fs) (λ more. Ok (one.0 ∷ more)) vs one.2 in
-    subst (FitAll (form ∷ forms)) (is_ok (one.0 ∷ two.0) vs two.2) (value_fits form f one.0 one.1, values_fit forms fs two.0 two.1)
+each_said : (forms : List FieldForm) (says : Saying forms) (P : Statement → Type 0) (fs : List (List ℕ)) (said : Statement) → EachSaid forms says P →
+    said_of forms says fs ≡ Ok said → P said
+each_said [] says P fs said h e = subst P (is_ok says said e) h
+each_said (form ∷ forms) says P [] said h e = absurd cc
+each_said (form ∷ forms) says P (f ∷ fs) said h e =
+    let one = bind_ok (meaning_of form f) (λ m. said_of forms (says m) fs) said e in
+    each_said forms (says one.0) P fs said (h one.0 (meaning_fits form f one.0 one.1)) one.2
 
--- what a row says is said of values that fit
-pub said_fits : (r : Row) (fs : List (List ℕ)) (said : Statement) → said_by r fs ≡ Ok said → (vs : List FieldValue) × FitAll r.forms vs × (said ≡ r.says vs)
-said_fits r fs said e =
-    let t = counted (eqb (length fs) (length r.forms)) (values_of r.forms fs >>= λ vs. Ok (r.says vs)) e in
-    let b = bind_ok (values_of r.forms fs) (λ vs. Ok (r.says vs)) said t in
-    (b.0, values_fit r.forms fs b.0 b.1, sym (is_ok (r.says b.0) said b.2))
+-- and so has what a row says
+pub row_said : (r : Row) (P : Statement → Type 0) (fs : List (List ℕ)) (said : Statement) → EachSaid r.forms r.says P → said_by r fs ≡ Ok said → P said
+row_said r P fs said h e = each_said r.forms r.says P fs said h (counted (eqb (length fs) (length r.forms)) (said_of r.forms r.says fs) e)
   where
     counted : (b : Bool) (x : Result Statement Why) → cond b x (Err Fields) ≡ Ok said → x ≡ Ok said
     counted true x h = h

@@ -10,3 +10,5 @@ pub mod Script
 pub mod Fitting
 pub mod Validity
 pub mod Spelled
+pub mod Numbered
+pub mod Plain

@@ -4,7 +4,7 @@ use Rattle.std.proofs.Math.ListN.{drop_of_length-le}
 use Rattle.std.specs.List.{slice_split, onto_first, list_all}
 use Rattle.std.specs.Str.Lines.{lines, lines_of_parts, strip_carriage_return}
 use Rattle.std.proofs.lemmas.Bool.{cases_Bool, or_parts, or_cases, and_cases, and_parts, not-true, eqb-true, ne_eqb, false≢true}
-use Rattle.heap_terms.specs.Fields.{is_blank, fields_of}
+use Rattle.heap_terms.specs.Fields.{is_blank, fields_in}
 use Rattle.script_text.specs.Left.{first_or_empty, all_but_first, fields_left, lines_after, SameLeft, Taken, NoneLeft, starts_with_lf, ends_field, field_len, starts_with_blank}
 
 abbrev is_lf : ℕ → Bool
@@ -104,7 +104,7 @@ first-blank b bytes h = elim (blank-is b h) [
 
 -- a blank is no part of a field
 pub SameLeft-blank : (b : ℕ) (bytes : List ℕ) → is_blank b ≡ true → SameLeft (b ∷ bytes) bytes
-unfolding fields_left fields_of
+unfolding fields_left fields_in
 SameLeft-blank b bytes h = record {
   fields = rw (first-blank b bytes h, h) refl;
   lines = elim (blank-is b h) [
@@ -143,7 +143,7 @@ starts_apart (b ∷ bytes) h =
 
 -- no field is left where the first line is empty
 none_in_empty : (bytes : List ℕ) → first_or_empty (lines bytes) ≡ [] → fields_left bytes ≡ []
-unfolding fields_left fields_of
+unfolding fields_left fields_in
 none_in_empty bytes e = rw e refl
 
 -- ---- a field
@@ -159,8 +159,8 @@ split_apart : (line : List ℕ) → StartsApart line → (parts : List (List ℕ
 split_apart _ Empty = ([], refl)
 split_apart _ (Blank b line h) = (slice_split is_blank line, rw h refl)
 
-fields-front : (b : ℕ) (front line : List ℕ) → list_all (λ x. not (is_blank x)) (b ∷ front) ≡ true → StartsApart line → fields_of ((b ∷ front) ++ line) ≡ (b ∷ front) ∷ fields_of line
-unfolding fields_of
+fields-front : (b : ℕ) (front line : List ℕ) → list_all (λ x. not (is_blank x)) (b ∷ front) ≡ true → StartsApart line → fields_in ((b ∷ front) ++ line) ≡ (b ∷ front) ∷ fields_in line
+unfolding fields_in
 fields-front b front line h apart =
     let p = split_apart line apart in
     rw (split-front (b ∷ front) line p.0 h p.1, p.1) refl
@@ -248,7 +248,7 @@ Taken-field (b ∷ bytes) n e =
     let apart : ends_field (drop n bytes) ≡ true = rw e at p.apart in
     let others : lines_after (b ∷ bytes) ≡ lines_after (drop n bytes) = rw e at p.others in
     record {
-      fields = ap fields_of first ∙ fields-front b (take n bytes) (first_or_empty (lines (drop n bytes))) solid (starts_apart (drop n bytes) apart);
+      fields = ap fields_in first ∙ fields-front b (take n bytes) (first_or_empty (lines (drop n bytes))) solid (starts_apart (drop n bytes) apart);
       lines = sym others;
     }
 

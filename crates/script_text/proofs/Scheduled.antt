@@ -6,7 +6,7 @@ use Rattle.heap_terms.specs.declared.faults.Why.TheVariants.{Fields}
 use Rattle.heap_terms.specs.declared.faults.LimitKind.TheVariants as limits
 use Rattle.heap_terms.specs.Fields.{◌>>=◌}
 use Rattle.heap_terms.specs.Grammar.{Turns, schedule_of, turns_of_all}
-use Rattle.heap_terms.specs.Reading.{SoFar, Bad, Over, InSchedule, within_limits}
+use Rattle.heap_terms.specs.ScriptReading.{SoFar, Bad, Over, InSchedule, within_limits}
 use Rattle.script_text.specs.Answers.{turns_behind}
 
 -- a schedule without fields

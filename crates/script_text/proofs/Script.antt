@@ -2,8 +2,8 @@
 use Rattle.std.proofs.Common.{◌≡◌, ℕ, ◌+◌, List, [], ◌∷◌, length, Result, Ok, Err, refl, sym, ◌∙◌, arith}
 use Rattle.std.specs.Str.Lines.{lines}
 use Rattle.heap_terms.specs.declared.programs.Program.{Program}
-use Rattle.heap_terms.specs.Fields.{fields_of}
-use Rattle.heap_terms.specs.Reading.{SoFar, Refused, Bad, Over, Fault, fault_at, judged, read_lines, finished}
+use Rattle.heap_terms.specs.Fields.{fields_in}
+use Rattle.heap_terms.specs.ScriptReading.{SoFar, Refused, Bad, Over, Fault, fault_at, judged, read_lines, finished}
 use Rattle.script_text.specs.declared.faults.LineFault.{LineFault}
 use Rattle.script_text.specs.declared.faults.LineFault.TheVariants as faults
 use Rattle.script_text.specs.Answers.{IsRefused}
@@ -11,12 +11,12 @@ use Rattle.script_text.specs.Gives.{Fails}
 use Rattle.script_text.specs.Numbers.{fault_of_line}
 use Rattle.script_text.specs.Left.{first_or_empty, all_but_first, fields_left, lines_after}
 
-next_of : (s next : SoFar) (number : ℕ) (ls : List (List ℕ)) → (ls ≡ [] → ⊥) → judged s (fields_of (first_or_empty ls)) ≡ Ok next → read_lines s number ls ≡ read_lines next (number + 1) (all_but_first ls)
+next_of : (s next : SoFar) (number : ℕ) (ls : List (List ℕ)) → (ls ≡ [] → ⊥) → judged s (fields_in (first_or_empty ls)) ≡ Ok next → read_lines s number ls ≡ read_lines next (number + 1) (all_but_first ls)
 unfolding read_lines
 next_of s next number [] some good = absurd (some refl)
 next_of s next number (l ∷ ls) some good = rw (good, read_lines) refl
 
-refused_of : (s : SoFar) (number : ℕ) (refused : Refused) (ls : List (List ℕ)) → (ls ≡ [] → ⊥) → judged s (fields_of (first_or_empty ls)) ≡ Err refused → read_lines s number ls ≡ Err (fault_at number refused)
+refused_of : (s : SoFar) (number : ℕ) (refused : Refused) (ls : List (List ℕ)) → (ls ≡ [] → ⊥) → judged s (fields_in (first_or_empty ls)) ≡ Err refused → read_lines s number ls ≡ Err (fault_at number refused)
 unfolding read_lines
 refused_of s number refused [] some bad = absurd (some refl)
 refused_of s number refused (l ∷ ls) some bad = rw (bad, read_lines) refl

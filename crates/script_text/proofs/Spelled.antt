@@ -1,34 +1,34 @@
 -- Fields in their usual spelling.
-use Rattle.std.proofs.Common.{◌≡◌, ℕ, ◌+◌, ◌-◌, ◌*◌, ◌≤◌, ◌<◌, suc, true, false, eqb, ltb, leb, ◌||◌, List, [], ◌∷◌, ◌++◌, nat_lt, length, take, drop, get_or, Some, Ok, refl, sym, ap, ◌∙◌, subst, arith, inl, inr}
+use Rattle.std.proofs.Common.{◌≡◌, ℕ, ◌+◌, ◌-◌, ◌*◌, ◌≤◌, ◌<◌, suc, true, false, eqb, ltb, ◌||◌, List, [], ◌∷◌, ◌++◌, nat_lt, length, take, drop, get_or, Some, Ok, refl, sym, ap, ◌∙◌, subst, arith, append_assoc, inl, inr}
 use Rattle.std.specs.Char.{is_digit, digit_value}
-use Rattle.std.proofs.lemmas.Bool.{ne_eqb, or_cases, and_parts, eqb-true, ltb-true, lt-ltb, le-leb}
-use Rattle.std.proofs.lemmas.List.{take_at, drop_at, length-append, get_or-append-add}
+use Rattle.std.proofs.lemmas.Bool.{ne_eqb, or_cases, and_parts, eqb-true, ltb-true, lt-ltb}
+use Rattle.std.proofs.lemmas.List.{take_at, drop_at, take-append-drop, length-take-le}
 use Rattle.std.specs.List.{list_all}
 use Rattle.std.proofs.lemmas.Str.{digit_value_digit}
 use Rattle.heap_terms.specs.declared.cells.Cell.{Cell}
 use Rattle.heap_terms.specs.declared.cells.Cell.TheVariants.{Stack, Exact, Shared}
-use Rattle.heap_terms.specs.Fields.{fields_of, is_blank, number_of, cell_number, cell_of, turns_of}
-use Rattle.script_text.specs.Commands.{an_index}
-use Rattle.script_text.specs.Left.{ends_field, field_len, fields_left, Taken, IsSolidWord}
+use Rattle.heap_terms.specs.Fields.{fields_in, is_blank, number_of, cell_number, cell_of, turns_of}
+use Rattle.script_text.specs.Commands.{Reads, a_cell}
+use Rattle.script_text.specs.Left.{ends_field, field_len, fields_left, Taken, IsSolidWord, IsSpelled}
 use Rattle.script_text.proofs.Digits.{digit_yes}
 use Rattle.script_text.proofs.Lines.{lines-lf, SameLeft-blank, Taken-field, field_len-none, field_len-cons}
 
 -- a byte that is no blank, LF or CR
-record IsSolid (b : ℕ) : Type 0 where
-  blank : is_blank b ≡ false
-  lf : eqb b 10 ≡ false
-  cr : eqb b 13 ≡ false
+pub record IsSolid (b : ℕ) : Type 0 where
+  pub blank : is_blank b ≡ false
+  pub lf : eqb b 10 ≡ false
+  pub cr : eqb b 13 ≡ false
 
-solid_inside : (b : ℕ) (bytes : List ℕ) → IsSolid b → ends_field (b ∷ bytes) ≡ false
+pub solid_inside : (b : ℕ) (bytes : List ℕ) → IsSolid b → ends_field (b ∷ bytes) ≡ false
 solid_inside b bytes s = rw (s.blank, s.lf, s.cr) refl
 
-digit_solid : (b : ℕ) → 48 ≤ b → IsSolid b
+pub digit_solid : (b : ℕ) → 48 ≤ b → IsSolid b
 digit_solid b low =
     let space : eqb b 32 ≡ false = ne_eqb b 32 (λ (e : b ≡ 32). omega arith) in
     let tab : eqb b 9 ≡ false = ne_eqb b 9 (λ (e : b ≡ 9). omega arith) in
     record { blank = rw (space, tab) refl; lf = ne_eqb b 10 (λ (e : b ≡ 10). omega arith); cr = ne_eqb b 13 (λ (e : b ≡ 13). omega arith) }
 
-plain_end : (b : ℕ) (bytes : List ℕ) → (eqb b 32 || eqb b 10) ≡ true → ends_field (b ∷ bytes) ≡ true
+pub plain_end : (b : ℕ) (bytes : List ℕ) → (eqb b 32 || eqb b 10) ≡ true → ends_field (b ∷ bytes) ≡ true
 plain_end b bytes h = elim (or_cases (eqb b 32) (eqb b 10) h) [ inl space ↦ rw (eqb-true b 32 space) refl | inr lf ↦ rw (eqb-true b 10 lf) refl ]
 
 -- ---- how long a field is
@@ -72,12 +72,22 @@ before_space (w ∷ ws) more h =
     subst (λ (field : List ℕ). Taken (w ∷ ws ++ 32 ∷ more) field (32 ∷ more)) (take_at (w ∷ ws) (32 ∷ more) (suc (length ws)) refl)
     (subst (λ (after : List ℕ). Taken (w ∷ ws ++ 32 ∷ more) (take (suc (length ws)) (w ∷ ws ++ 32 ∷ more)) after) (drop_at (w ∷ ws) (32 ∷ more) (suc (length ws)) refl) t)
 
--- what stands at the front is a word, and a space behind it
-pub word_taken : (rest word after : List ℕ) → IsSolidWord word → rest ≡ word ++ after → length word < length rest → get_or rest (length word) 0 ≡ 32 → Taken rest word after
-word_taken rest word [] solid e long space = absurd (omega (arith, ap (λ (k : List ℕ). length k) e, length-append word []))
-word_taken rest word (b ∷ more) solid e long space =
-    let at : b ≡ 32 = sym (get_or-append-add word (b ∷ more) 0 0) ∙ ap (λ (n : ℕ). get_or (word ++ b ∷ more) n 0) (omega arith) ∙ ap (λ (k : List ℕ). get_or k (length word) 0) (sym e) ∙ space in
-    rw e (rw at (before_space word more solid))
+-- what stands at the front is a word with its space, of so many bytes with it
+pub spelled_taken : (rest spelled after : List ℕ) (n : ℕ) → IsSpelled spelled → n ≡ length spelled → take (length spelled) rest ≡ spelled →
+    after ≡ drop (n - 1) rest → Taken rest (take (n - 1) spelled) after
+spelled_taken rest spelled after n s len same behind =
+    let k = n - 1 in
+    let word = take k spelled in
+    let more = drop (length spelled) rest in
+    let cut : length spelled - 1 ≡ k = omega (arith, len) in
+    let solid : IsSolidWord word = subst (λ (i : ℕ). IsSolidWord (take i spelled)) cut s.0 in
+    let space : drop k spelled ≡ 32 ∷ [] = ap (λ (i : ℕ). drop i spelled) (sym cut) ∙ s.1 in
+    let whole : spelled ≡ word ++ 32 ∷ [] = sym (take-append-drop k spelled) ∙ ap (λ (t : List ℕ). word ++ t) space in
+    let parts : rest ≡ word ++ 32 ∷ more =
+    sym (take-append-drop (length spelled) rest) ∙ ap (λ (t : List ℕ). t ++ more) (same ∙ whole) ∙ append_assoc word (32 ∷ []) more in
+    let count : length word ≡ k = length-take-le k spelled (omega (arith, len)) in
+    let back : after ≡ 32 ∷ more = behind ∙ ap (drop k) parts ∙ drop_at word (32 ∷ more) k count in
+    rw (parts, back) (before_space word more solid)
 
 -- ---- what the digits say
 
@@ -127,13 +137,13 @@ plain_two (a ∷ b ∷ c ∷ bytes) long one low high ends =
     (sym (len_two a b c bytes (digit_solid a (omega arith)) (digit_solid b low) ends), ap (λ (x : ℕ). cell_number 16 (x ∷ b ∷ [])) one ∙ cell_two b low high)
 
 -- a field behind one space
-behind_space : (bytes : List ℕ) (n : ℕ) → field_len bytes ≡ suc n → Taken (32 ∷ bytes) (take (suc n) bytes) (drop (suc n) bytes)
+pub behind_space : (bytes : List ℕ) (n : ℕ) → field_len bytes ≡ suc n → Taken (32 ∷ bytes) (take (suc n) bytes) (drop (suc n) bytes)
 behind_space bytes n len =
     let same = SameLeft-blank 32 bytes refl in
     let t = Taken-field bytes n len in
     record { fields = sym same.fields ∙ t.fields; lines = t.lines ∙ same.lines }
 
-kind_taken : (bytes : List ℕ) (kind n : ℕ) → 2 ≤ length bytes → get_or bytes 0 0 ≡ 32 → get_or bytes 1 0 ≡ kind → IsSolid kind → n ≡ field_len (drop 2 bytes)
+pub kind_taken : (bytes : List ℕ) (kind n : ℕ) → 2 ≤ length bytes → get_or bytes 0 0 ≡ 32 → get_or bytes 1 0 ≡ kind → IsSolid kind → n ≡ field_len (drop 2 bytes)
     → Taken bytes (kind ∷ take n (drop 2 bytes)) (drop n (drop 2 bytes))
 kind_taken [] kind n long space k solid len = absurd (omega arith)
 kind_taken (a ∷ []) kind n long space k solid len = absurd (omega arith)
@@ -171,12 +181,6 @@ digit_taken (a ∷ b ∷ c ∷ bytes) long space low ends =
 
 -- ---- what a digit says
 
-pub digit_index : (d : ℕ) → d < 10 → an_index ((d + 48) ∷ []) ≡ Ok d
-digit_index d small =
-    let n : number_of ((d + 48) ∷ []) ≡ Some d = number_one (d + 48) (omega arith) (omega arith) ∙ ap (λ (x : ℕ). Some x) (omega arith) in
-    let most : leb d 65535 ≡ true = le-leb d 65535 (omega arith) in
-    rw (n, most) refl
-
 pub digit_turn : (threads d : ℕ) → d < 10 → d < threads → turns_of threads ((d + 48) ∷ []) ≡ Ok (d ∷ [])
 unfolding turns_of
 digit_turn threads d small lt =
@@ -189,23 +193,24 @@ digit_turn threads d small lt =
 abbrev pub Behind : List ℕ → ℕ → List ℕ → Type 0
 Behind digits m after = (n : ℕ) × (n ≡ field_len digits) × (cell_number 16 (take n digits) ≡ Some m) × (after ≡ drop n digits)
 
-abbrev pub IsCellAt : List ℕ → Cell → List ℕ → Type 0
-IsCellAt bytes c after = (field : List ℕ) × (cell_of field ≡ Some c) × Taken bytes field after
+-- a field that says a cell
+cell_read : (bytes after : List ℕ) (c : Cell) → (field : List ℕ) × (cell_of field ≡ Some c) × Taken bytes field after → Reads a_cell bytes c after
+cell_read bytes after c f = record { field = f.0; says = rw f.1 refl; taken = f.2 }
 
-pub stack_at : (bytes digits after : List ℕ) (m : ℕ) → 2 ≤ length bytes → get_or bytes 0 0 ≡ 32 → get_or bytes 1 0 ≡ 115 → digits ≡ drop 2 bytes → Behind digits m after → IsCellAt bytes (Stack m) after
+pub stack_at : (bytes digits after : List ℕ) (m : ℕ) → 2 ≤ length bytes → get_or bytes 0 0 ≡ 32 → get_or bytes 1 0 ≡ 115 → digits ≡ drop 2 bytes → Behind digits m after → Reads a_cell bytes (Stack m) after
 stack_at bytes digits after m long space kind e b =
-    let d = subst (λ (xs : List ℕ). Behind xs m after) e b in plain_stack bytes after m d.0 long space kind d.1 d.2 d.3
+    let d = subst (λ (xs : List ℕ). Behind xs m after) e b in cell_read bytes after (Stack m) (plain_stack bytes after m d.0 long space kind d.1 d.2 d.3)
 
-pub exact_at : (bytes digits after : List ℕ) (m : ℕ) → 2 ≤ length bytes → get_or bytes 0 0 ≡ 32 → get_or bytes 1 0 ≡ 98 → digits ≡ drop 2 bytes → Behind digits m after → IsCellAt bytes (Exact m) after
+pub exact_at : (bytes digits after : List ℕ) (m : ℕ) → 2 ≤ length bytes → get_or bytes 0 0 ≡ 32 → get_or bytes 1 0 ≡ 98 → digits ≡ drop 2 bytes → Behind digits m after → Reads a_cell bytes (Exact m) after
 exact_at bytes digits after m long space kind e b =
-    let d = subst (λ (xs : List ℕ). Behind xs m after) e b in plain_exact bytes after m d.0 long space kind d.1 d.2 d.3
+    let d = subst (λ (xs : List ℕ). Behind xs m after) e b in cell_read bytes after (Exact m) (plain_exact bytes after m d.0 long space kind d.1 d.2 d.3)
 
-pub shared_at : (bytes digits after : List ℕ) (m : ℕ) → 2 ≤ length bytes → get_or bytes 0 0 ≡ 32 → get_or bytes 1 0 ≡ 103 → digits ≡ drop 2 bytes → Behind digits m after → IsCellAt bytes (Shared m) after
+pub shared_at : (bytes digits after : List ℕ) (m : ℕ) → 2 ≤ length bytes → get_or bytes 0 0 ≡ 32 → get_or bytes 1 0 ≡ 103 → digits ≡ drop 2 bytes → Behind digits m after → Reads a_cell bytes (Shared m) after
 shared_at bytes digits after m long space kind e b =
-    let d = subst (λ (xs : List ℕ). Behind xs m after) e b in plain_shared bytes after m d.0 long space kind d.1 d.2 d.3
+    let d = subst (λ (xs : List ℕ). Behind xs m after) e b in cell_read bytes after (Shared m) (plain_shared bytes after m d.0 long space kind d.1 d.2 d.3)
 
 -- no field is left before an LF
 pub lf_ends : (bytes : List ℕ) → 1 ≤ length bytes → get_or bytes 0 0 ≡ 10 → length (fields_left bytes) ≡ 0
-unfolding fields_left fields_of
+unfolding fields_left fields_in
 lf_ends [] long lf = absurd (omega arith)
 lf_ends (b ∷ bytes) long lf = rw (lf, lines-lf bytes) refl

@@ -5,7 +5,7 @@ use Rattle.std.proofs.lemmas.Bool.{ne_eqb}
 use Rattle.heap_terms.specs.declared.faults.Why.{Why}
 use Rattle.heap_terms.specs.declared.faults.Why.TheVariants.{Fields}
 use Rattle.heap_terms.specs.Fields.{◌>>=◌, number_of, ranged, between, at_least}
-use Rattle.heap_terms.specs.Grammar.{FieldForm, Number, FieldValue, Statement, Version, HeapOf, NewThread, EndOfScript, schedule_of, row, value_of, number, said_by, rows, statement_of}
+use Rattle.heap_terms.specs.Grammar.{FieldForm, Number, Meaning, Statement, Version, HeapOf, NewThread, EndOfScript, schedule_of, row, meaning_of, said_by, rows, statement_of}
 use Rattle.script_text.specs.declared.words.Keyword.{Keyword}
 use Rattle.script_text.specs.declared.words.Keyword.TheVariants as keywords
 use Rattle.script_text.specs.Answers.{only_field}
@@ -13,25 +13,21 @@ use Rattle.script_text.specs.Words.{text_of}
 use Rattle.script_text.specs.Values.{pages_of}
 
 -- a row with one field
-one_said : (word : List ℕ) (form : FieldForm) (says : List FieldValue → Statement) (fs : List (List ℕ))
-    → said_by (row word (form ∷ []) says) fs ≡ (only_field fs >>= λ f. value_of form f >>= λ v. Ok (says (v ∷ [])))
+one_said : (word : List ℕ) (form : FieldForm) (says : Meaning form → Statement) (fs : List (List ℕ))
+    → said_by (row word (form ∷ []) says) fs ≡ (only_field fs >>= λ f. meaning_of form f >>= λ m. Ok (says m))
 one_said word form says [] = refl
-one_said word form says (f ∷ []) = at (value_of form f)
-  where
-    at : (r : Result FieldValue Why) → ((r >>= λ v. Ok (v ∷ [])) >>= λ vs. Ok (says vs)) ≡ (r >>= λ v. Ok (says (v ∷ [])))
-    at (Ok v) = refl
-    at (Err e) = refl
+one_said word form says (f ∷ []) = refl
 one_said word form says (f ∷ g ∷ fs) =
     let more : eqb (suc (suc (length fs))) 1 ≡ false = ne_eqb (suc (suc (length fs))) 1 (λ (e : suc (suc (length fs)) ≡ 1). omega arith) in
     rw more refl
 
-version_said : (threads : ℕ) (fs : List (List ℕ)) → statement_of threads (codes "lispheap") fs ≡ (only_field fs >>= λ f. value_of (Number (between 1 1)) f >>= λ v. Ok Version)
+version_said : (threads : ℕ) (fs : List (List ℕ)) → statement_of threads (codes "lispheap") fs ≡ (only_field fs >>= λ f. meaning_of (Number (between 1 1)) f >>= λ v. Ok Version)
 unfolding statement_of rows
 version_said threads fs = one_said (codes "lispheap") (Number (between 1 1)) (λ v. Version) fs
 
-heap_said : (threads : ℕ) (fs : List (List ℕ)) → statement_of threads (codes "heap") fs ≡ (only_field fs >>= λ f. value_of (Number (at_least 1)) f >>= λ v. Ok (HeapOf (number (v ∷ []) 0)))
+heap_said : (threads : ℕ) (fs : List (List ℕ)) → statement_of threads (codes "heap") fs ≡ (only_field fs >>= λ f. meaning_of (Number (at_least 1)) f >>= λ v. Ok (HeapOf v))
 unfolding statement_of rows
-heap_said threads fs = one_said (codes "heap") (Number (at_least 1)) (λ v. HeapOf (number v 0)) fs
+heap_said threads fs = one_said (codes "heap") (Number (at_least 1)) (λ v. HeapOf v) fs
 
 pub version_ok : (threads : ℕ) (fs : List (List ℕ)) (f : List ℕ) (n : ℕ) → only_field fs ≡ Ok f → Ok n ≡ ranged (between 1 1) (number_of f) → statement_of threads (codes "lispheap") fs ≡ Ok Version
 version_ok threads fs f n only read = version_said threads fs ∙ rw (only, ← read) refl

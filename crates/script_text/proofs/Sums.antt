@@ -3,7 +3,7 @@ use Rattle.std.proofs.Common.{◌≡◌, ◌+◌, ◌<◌, suc, cond, List, [], 
 use Rattle.std.specs.Prelude.{sum_by, count_by}
 use Rattle.std.proofs.lemmas.List.Sums.{sum_by-append}
 use Rattle.heap_terms.specs.declared.commands.Command.{Command}
-use Rattle.heap_terms.specs.Reading.{onto_last}
+use Rattle.heap_terms.specs.ScriptReading.{onto_last}
 use Rattle.heap_terms.specs.Valid.{is_gc}
 
 pub length-onto_last : (ts : List (List Command)) (c : Command) → length (onto_last ts c) ≡ length ts

@@ -14,11 +14,11 @@ use Rattle.heap_terms.specs.declared.faults.LimitKind.TheVariants as limits
 use Rattle.heap_terms.specs.declared.faults.Why.{Why}
 use Rattle.heap_terms.specs.declared.faults.Why.TheVariants.{Word, Order}
 use Rattle.heap_terms.specs.declared.programs.Program.{Program}
-use Rattle.heap_terms.specs.Fields.{◌>>=◌, between, at_least, is_fixnum, fields_of}
-use Rattle.heap_terms.specs.Grammar.{LispCell, Number, Signed, FieldValue, Statement, Version, HeapOf, AutoOf, NewThread, Does, Turns, EndOfScript, Row, Small, row, command, cell, number, signed, said_by, schedule_of, statement_of, turns_of_all, rows}
-use Rattle.heap_terms.specs.Reading.{Place, AtStart, AfterVersion, AfterHeap, AfterAuto, InThread, InSchedule, AfterEnd, SoFar, nothing_read, Refused, Bad, may_follow, place_after, onto_last, with_statement, unless_above, limit_of_command, limit_passed, unless_passed, within_limits, judged_word, judged, Fault, fault_at, finished_at, read_lines, read_script}
-use Rattle.heap_terms.specs.Valid.{IsCommand, IsFixnum, IsValid, NamesYoungest, is_built, is_gc}
-use Rattle.script_text.proofs.Fitting.{FitAll, said_fits, turns_below}
+use Rattle.heap_terms.specs.Fields.{◌>>=◌, between, at_least, is_fixnum, fields_in}
+use Rattle.heap_terms.specs.Grammar.{LispCell, Number, Signed, Statement, Version, HeapOf, AutoOf, NewThread, Does, Turns, EndOfScript, Row, Small, row, said_by, schedule_of, statement_of, turns_of_all, rows}
+use Rattle.heap_terms.specs.ScriptReading.{Place, AtStart, AfterVersion, AfterHeap, AfterAuto, InThread, InSchedule, AfterEnd, SoFar, nothing_read, Refused, Bad, may_follow, place_after, onto_last, with_statement, unless_above, limit_of_command, limit_passed, unless_passed, within_limits, judged_word, judged, Fault, fault_at, finished_at, read_lines, read_script}
+use Rattle.heap_terms.specs.Valid.{IsCommand, IsFixnum, IsInRange, IsValid, NamesYoungest, is_built, is_gc, name_of}
+use Rattle.script_text.proofs.Fitting.{EachSaid, row_said, turns_below}
 use Rattle.script_text.proofs.Sums.{length-onto_last, commands-onto_last, gcs-onto_last}
 
 -- ---- what a line says
@@ -81,37 +81,9 @@ fixnum_is : (n : ℤ) → is_fixnum n ≡ true → IsFixnum n
 fixnum_is (pos n) e = ltb-true n (2 ^ 62) e
 fixnum_is (negsuc n) e = ltb-true n (2 ^ 62) e
 
--- what the fields of each built word say
-fix_said : (vs : List FieldValue) → FitAll (LispCell ∷ Signed is_fixnum ∷ []) vs → Sound (commands.Fix (cell vs 0) (signed vs 1))
-fix_said [] h = absurd h
-fix_said (a ∷ []) h = absurd h.1
-fix_said (a ∷ b ∷ vs) h = record { command = record { built = refl; in_range = (h.0, fixnum_is _ h.1.0) }; youngest = tt }
-
-cons_said : (vs : List FieldValue) → FitAll (LispCell ∷ LispCell ∷ LispCell ∷ []) vs → Sound (commands.NewCons (cell vs 0) (cell vs 1) (cell vs 2))
-cons_said [] h = absurd h
-cons_said (a ∷ []) h = absurd h.1
-cons_said (a ∷ b ∷ []) h = absurd h.1.1
-cons_said (a ∷ b ∷ c ∷ vs) h = record { command = record { built = refl; in_range = (h.0, h.1.0, h.1.1.0) }; youngest = tt }
-
-get_said : (vs : List FieldValue) → FitAll (LispCell ∷ LispCell ∷ Small ∷ []) vs → Sound (commands.Get (cell vs 0) (cell vs 1) (number vs 2))
-get_said [] h = absurd h
-get_said (a ∷ []) h = absurd h.1
-get_said (a ∷ b ∷ []) h = absurd h.1.1
-get_said (a ∷ b ∷ c ∷ vs) h = record { command = record { built = refl; in_range = (h.0, h.1.0, leb-true _ _ h.1.1.0) }; youngest = tt }
-
-put_said : (vs : List FieldValue) → FitAll (LispCell ∷ Small ∷ LispCell ∷ []) vs → Sound (commands.Put (cell vs 0) (number vs 1) (cell vs 2))
-put_said [] h = absurd h
-put_said (a ∷ []) h = absurd h.1
-put_said (a ∷ b ∷ []) h = absurd h.1.1
-put_said (a ∷ b ∷ c ∷ vs) h = record { command = record { built = refl; in_range = (h.0, leb-true _ _ h.1.0, h.1.1.0) }; youngest = tt }
-
-show_said : (vs : List FieldValue) → FitAll (LispCell ∷ []) vs → Sound (commands.Show (cell vs 0))
-show_said [] h = absurd h
-show_said (a ∷ vs) h = record { command = record { built = refl; in_range = h.0 }; youngest = tt }
-
-heap_said : (vs : List FieldValue) → FitAll (Number (at_least 1) ∷ []) vs → 1 ≤ number vs 0
-heap_said [] h = absurd h
-heap_said (a ∷ vs) h = leb-true _ _ h.0
+-- a command with its fields in range is sound
+sound : {c : Command} → is_built (name_of c) ≡ true → IsInRange c → NamesYoungest c → Sound c
+sound built in_range youngest = record { command = record { built = built; in_range = in_range }; youngest = youngest }
 
 late : {word : List ℕ} → may_follow AtStart word ≡ false → may_follow AfterVersion word ≡ false → may_follow AfterHeap word ≡ false → may_follow AfterAuto word ≡ false → IsLate word
 late a b c d = record { start = a; version = b; heap = c; auto = d }
@@ -129,24 +101,24 @@ schedule_may place threads (f ∷ fs) said h e = at (turns_of_all threads (f ∷
 pub record Says (place : Place) (threads : ℕ) (word : List ℕ) : Type 0 where
   may : may_follow place word ≡ true → (fs : List (List ℕ)) (said : Statement) → statement_of threads word fs ≡ Ok said → May place threads said
 
-by_row : (place : Place) (threads : ℕ) (r : Row) → ((vs : List FieldValue) → FitAll r.forms vs → May place threads (r.says vs)) → (fs : List (List ℕ)) (said : Statement) → said_by r fs ≡ Ok said → May place threads said
-by_row place threads r h fs said e = let f = said_fits r fs said e in subst (May place threads) (sym f.2) (h f.0 f.1)
+by_row : (place : Place) (threads : ℕ) (r : Row) → EachSaid r.forms r.says (May place threads) → (fs : List (List ℕ)) (said : Statement) → said_by r fs ≡ Ok said → May place threads said
+by_row place threads r h fs said e = row_said r (May place threads) fs said h e
 
 says_lispheap : (place : Place) (threads : ℕ) → Says place threads (codes "lispheap")
 unfolding May statement_of rows
-says_lispheap place threads = record { may = λ e fs said h. by_row place threads (row (codes "lispheap") (Number (between 1 1) ∷ []) (λ v. Version)) (λ vs g. tt) fs said h }
+says_lispheap place threads = record { may = λ e fs said h. by_row place threads (row (codes "lispheap") (Number (between 1 1) ∷ []) (λ v. Version)) (λ m g. tt) fs said h }
 
 says_heap : (place : Place) (threads : ℕ) → Says place threads (codes "heap")
 unfolding May statement_of rows
-says_heap place threads = record { may = λ e fs said h. by_row place threads (row (codes "heap") (Number (at_least 1) ∷ []) (λ v. HeapOf (number v 0))) heap_said fs said h }
+says_heap place threads = record { may = λ e fs said h. by_row place threads (row (codes "heap") (Number (at_least 1) ∷ []) (λ n. HeapOf n)) (λ n g. leb-true _ _ g) fs said h }
 
 says_thread : (place : Place) (threads : ℕ) → Says place threads (codes "thread")
 unfolding May statement_of rows
-says_thread place threads = record { may = λ e fs said h. by_row place threads (row (codes "thread") [] (λ v. NewThread)) (λ vs g. heap_before place e) fs said h }
+says_thread place threads = record { may = λ e fs said h. by_row place threads (row (codes "thread") [] NewThread) (heap_before place e) fs said h }
 
 says_end : (place : Place) (threads : ℕ) → Says place threads (codes "end")
 unfolding May statement_of rows
-says_end place threads = record { may = λ e fs said h. by_row place threads (row (codes "end") [] (λ v. EndOfScript)) (λ vs g. thread_before (codes "end") place (late refl refl refl refl) e) fs said h }
+says_end place threads = record { may = λ e fs said h. by_row place threads (row (codes "end") [] EndOfScript) (thread_before (codes "end") place (late refl refl refl refl) e) fs said h }
 
 says_schedule : (place : Place) (threads : ℕ) → Says place threads (codes "schedule")
 unfolding statement_of
@@ -154,23 +126,23 @@ says_schedule place threads = record { may = λ e fs said h. schedule_may place 
 
 says_fix : (place : Place) (threads : ℕ) → Says place threads (codes "fix")
 unfolding May statement_of rows
-says_fix place threads = record { may = λ e fs said h. by_row place threads (command (codes "fix") (LispCell ∷ Signed is_fixnum ∷ []) (λ v. commands.Fix (cell v 0) (signed v 1))) (λ vs g. (fix_said vs g, thread_before (codes "fix") place (late refl refl refl refl) e)) fs said h }
+says_fix place threads = record { may = λ e fs said h. by_row place threads (row (codes "fix") (LispCell ∷ Signed is_fixnum ∷ []) (λ d n. Does (commands.Fix d n))) (λ d hd n hn. (sound refl (hd, fixnum_is n hn) tt, thread_before (codes "fix") place (late refl refl refl refl) e)) fs said h }
 
 says_cons : (place : Place) (threads : ℕ) → Says place threads (codes "cons")
 unfolding May statement_of rows
-says_cons place threads = record { may = λ e fs said h. by_row place threads (command (codes "cons") (LispCell ∷ LispCell ∷ LispCell ∷ []) (λ v. commands.NewCons (cell v 0) (cell v 1) (cell v 2))) (λ vs g. (cons_said vs g, thread_before (codes "cons") place (late refl refl refl refl) e)) fs said h }
+says_cons place threads = record { may = λ e fs said h. by_row place threads (row (codes "cons") (LispCell ∷ LispCell ∷ LispCell ∷ []) (λ d a b. Does (commands.NewCons d a b))) (λ d hd a ha b hb. (sound refl (hd, ha, hb) tt, thread_before (codes "cons") place (late refl refl refl refl) e)) fs said h }
 
 says_get : (place : Place) (threads : ℕ) → Says place threads (codes "get")
 unfolding May statement_of rows
-says_get place threads = record { may = λ e fs said h. by_row place threads (command (codes "get") (LispCell ∷ LispCell ∷ Small ∷ []) (λ v. commands.Get (cell v 0) (cell v 1) (number v 2))) (λ vs g. (get_said vs g, thread_before (codes "get") place (late refl refl refl refl) e)) fs said h }
+says_get place threads = record { may = λ e fs said h. by_row place threads (row (codes "get") (LispCell ∷ LispCell ∷ Small ∷ []) (λ d c i. Does (commands.Get d c i))) (λ d hd c hc i hi. (sound refl (hd, hc, leb-true _ _ hi) tt, thread_before (codes "get") place (late refl refl refl refl) e)) fs said h }
 
 says_put : (place : Place) (threads : ℕ) → Says place threads (codes "put")
 unfolding May statement_of rows
-says_put place threads = record { may = λ e fs said h. by_row place threads (command (codes "put") (LispCell ∷ Small ∷ LispCell ∷ []) (λ v. commands.Put (cell v 0) (number v 1) (cell v 2))) (λ vs g. (put_said vs g, thread_before (codes "put") place (late refl refl refl refl) e)) fs said h }
+says_put place threads = record { may = λ e fs said h. by_row place threads (row (codes "put") (LispCell ∷ Small ∷ LispCell ∷ []) (λ c i a. Does (commands.Put c i a))) (λ c hc i hi a ha. (sound refl (hc, leb-true _ _ hi, ha) tt, thread_before (codes "put") place (late refl refl refl refl) e)) fs said h }
 
 says_show : (place : Place) (threads : ℕ) → Says place threads (codes "show")
 unfolding May statement_of rows
-says_show place threads = record { may = λ e fs said h. by_row place threads (command (codes "show") (LispCell ∷ []) (λ v. commands.Show (cell v 0))) (λ vs g. (show_said vs g, thread_before (codes "show") place (late refl refl refl refl) e)) fs said h }
+says_show place threads = record { may = λ e fs said h. by_row place threads (row (codes "show") (LispCell ∷ []) (λ c. Does (commands.Show c))) (λ c hc. (sound refl hc tt, thread_before (codes "show") place (late refl refl refl refl) e)) fs said h }
 
 -- each built word is one of these
 at_word : (place : Place) (threads : ℕ) (word known : List ℕ) → Says place threads known → bytes_eq word known ≡ true → Says place threads word
@@ -465,8 +437,8 @@ lines_valid : (s : SoFar) (line : ℕ) (ls : List (List ℕ)) (p : Program) → 
 unfolding read_lines
 lines_valid s line [] p g e = finished_valid s.place s.program p line g e
 lines_valid s line (l ∷ ls) p g e =
-    one_valid (judged s (fields_of l)) line (λ next. read_lines next (line + 1) ls) p
-    (λ next h more. lines_valid next (line + 1) ls p (judged_good s (fields_of l) next g h) more) e
+    one_valid (judged s (fields_in l)) line (λ next. read_lines next (line + 1) ls) p
+    (λ next h more. lines_valid next (line + 1) ls p (judged_good s (fields_in l) next g h) more) e
 
 -- a program that is read is valid
 pub read_valid : (bytes : List ℕ) (p : Program) → read_script bytes ≡ Ok p → IsValid p

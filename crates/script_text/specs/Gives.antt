@@ -1,7 +1,7 @@
 -- What a call that reads a script answers: exactly what reading gives, unless memory ran out.
 use Rattle.std.specs.Prelude.{◌≡◌, Result, Ok, Err}
 use Rattle.heap_terms.specs.declared.programs.Program.{Program}
-use Rattle.heap_terms.specs.Reading.{Fault, LineFault, LimitFault}
+use Rattle.heap_terms.specs.ScriptReading.{Fault, LineFault, LimitFault}
 use Rattle.script_text.specs.declared.faults.ScriptFault.{ScriptFault}
 use Rattle.script_text.specs.declared.faults.ScriptFault.TheVariants as faults
 

@@ -1,8 +1,8 @@
 -- What the bytes that are not read yet say: the fields left of the line in which they begin, and the lines after it.
-use Rattle.std.specs.Prelude.{◌≡◌, ℕ, suc, Bool, true, false, ◌&&◌, ◌||◌, ◌<◌, nat_lt, length, List, [], ◌∷◌, ◌==◌, if◌then◌else◌}
+use Rattle.std.specs.Prelude.{◌≡◌, ℕ, suc, Bool, true, false, ◌&&◌, ◌||◌, ◌<◌, nat_lt, ◌-◌, length, take, drop, List, [], ◌∷◌, ◌==◌, if◌then◌else◌}
 use Rattle.std.specs.List.{list_all}
 use Rattle.std.specs.Str.Lines.{lines}
-use Rattle.heap_terms.specs.Fields.{is_blank, fields_of}
+use Rattle.heap_terms.specs.Fields.{is_blank, fields_in}
 
 abbrev pub first_or_empty : List (List ℕ) → List ℕ
 first_or_empty [] = []
@@ -13,7 +13,7 @@ all_but_first [] = []
 all_but_first (line ∷ more) = more
 
 unfoldable pub fields_left : List ℕ → List (List ℕ)
-fields_left bytes = fields_of (first_or_empty (lines bytes))
+fields_left bytes = fields_in (first_or_empty (lines bytes))
 
 unfoldable pub lines_after : List ℕ → List (List ℕ)
 lines_after bytes = all_but_first (lines bytes)
@@ -41,6 +41,10 @@ starts_with_blank (b ∷ bytes) = is_blank b
 -- a word of bytes that are neither blanks nor ends of lines
 abbrev pub IsSolidWord : List ℕ → Type 0
 IsSolidWord word = (0 < length word) × (list_all (λ b. nat_lt 32 b) word ≡ true)
+
+-- such a word with one space after it
+abbrev pub IsSpelled : List ℕ → Type 0
+IsSpelled spelled = IsSolidWord (take (length spelled - 1) spelled) × (drop (length spelled - 1) spelled ≡ 32 ∷ [])
 
 abbrev pub starts_with_lf : List ℕ → Bool
 starts_with_lf [] = false

@@ -1,6 +1,6 @@
 -- The words that the reader knows, and the places that it tells apart, as the definition of reading has them.
 use Rattle.std.specs.Prelude.{ℕ, List, codes}
-use Rattle.heap_terms.specs.Reading.{Place as DefinedPlace, AtStart, AfterVersion, AfterHeap, InThread, InSchedule, AfterEnd}
+use Rattle.heap_terms.specs.ScriptReading.{Place as DefinedPlace, AtStart, AfterVersion, AfterHeap, InThread, InSchedule, AfterEnd}
 use Rattle.script_text.specs.declared.words.Keyword.{Keyword}
 use Rattle.script_text.specs.declared.words.Keyword.TheVariants as keywords
 use Rattle.script_text.specs.declared.words.Name.{Name}

@@ -1,14 +1,15 @@
 //! What the fields of a line say, behind its word.
 
-ghost use Rattle.std.specs.Prelude.{◌≡◌, ℕ, ◌-◌, ◌^◌, [], OnOk, IfOk, IfErr, Ok, Err, drop, min, codes};
+ghost use Rattle.std.specs.Prelude.{◌≡◌, ℕ, ◌-◌, ◌^◌, [], OnOk, IfOk, IfErr, IfSome, Ok, Err, drop, min, codes};
 ghost use Rattle.heap_terms.specs.Grammar.{Version, HeapOf, statement_of};
-ghost use Rattle.script_text.specs.Commands.{front_command, field_count, does};
+ghost use Rattle.script_text.specs.Commands.{front_command, field_count, does, IsFront, SaysCommand};
 ghost use Rattle.script_text.specs.Left.{fields_left, lines_after};
 ghost use Rattle.script_text.specs.Words.{text_of_name};
 
+use crate::cells::plain_cell;
 use crate::cursor::Cursor;
-use crate::values::{page_count, version};
-use crate::words::Name;
+use crate::numbers::{page_count, plain_fixnum, plain_index, version};
+use crate::words::{Name, plain_name};
 use heap_terms::{Command, Why};
 
 impl Name {
@@ -106,4 +107,91 @@ pub(crate) fn command(name: Name, left: &mut Cursor) -> Result<Command, Why>
             }
         }
     }
+}
+
+/// The fields of a `fix` in their usual spelling, and the bytes after them.
+#[inline(always)]
+fn plain_fix(rest: &[u8]) -> Option<(Command, &[u8])>
+    ensures { IfSome result (λ f. IsFront Name.Fix rest.now f.0 f.1.now) }
+{
+    let (d, rest) = plain_cell(rest)?;
+    let (n, rest) = plain_fixnum(rest)?;
+    Some((Command::Fix { d, n }, rest))
+}
+
+/// The fields of a `cons` in their usual spelling, and the bytes after them.
+#[inline(always)]
+fn plain_cons(rest: &[u8]) -> Option<(Command, &[u8])>
+    ensures { IfSome result (λ f. IsFront Name.Cons rest.now f.0 f.1.now) }
+{
+    let (d, rest) = plain_cell(rest)?;
+    let (a, rest) = plain_cell(rest)?;
+    let (b, rest) = plain_cell(rest)?;
+    Some((Command::NewCons { d, a, b }, rest))
+}
+
+/// The fields of a `get` in their usual spelling, and the bytes after them.
+#[inline(always)]
+fn plain_get(rest: &[u8]) -> Option<(Command, &[u8])>
+    ensures { IfSome result (λ f. IsFront Name.Get rest.now f.0 f.1.now) }
+{
+    let (d, rest) = plain_cell(rest)?;
+    let (c, rest) = plain_cell(rest)?;
+    let (i, rest) = plain_index(rest)?;
+    Some((Command::Get { d, c, i }, rest))
+}
+
+/// The fields of a `put` in their usual spelling, and the bytes after them.
+#[inline(always)]
+fn plain_put(rest: &[u8]) -> Option<(Command, &[u8])>
+    ensures { IfSome result (λ f. IsFront Name.Put rest.now f.0 f.1.now) }
+{
+    let (c, rest) = plain_cell(rest)?;
+    let (i, rest) = plain_index(rest)?;
+    let (a, rest) = plain_cell(rest)?;
+    Some((Command::Put { c, i, a }, rest))
+}
+
+/// The field of a `show` in its usual spelling, and the bytes after it.
+#[inline(always)]
+fn plain_show(rest: &[u8]) -> Option<(Command, &[u8])>
+    ensures { IfSome result (λ f. IsFront Name.Show rest.now f.0 f.1.now) }
+{
+    let (c, rest) = plain_cell(rest)?;
+    Some((Command::Show { c }, rest))
+}
+
+/// The command of the fields at the front in their usual spelling, and the bytes after them.
+#[inline(always)]
+fn plain_front(name: Name, rest: &[u8]) -> Option<(Command, &[u8])>
+    ensures { IfSome result (λ f. IsFront name rest.now f.0 f.1.now) }
+{
+    match name {
+        Name::Fix => plain_fix(rest),
+        Name::Cons => plain_cons(rest),
+        Name::Get => plain_get(rest),
+        Name::Put => plain_put(rest),
+        Name::Show => plain_show(rest),
+    }
+}
+
+/// How many bytes the longest line of the usual spelling has, and more. Where so many are left, one
+/// test serves for most of the line's bytes; the last lines of a script are read as any other.
+const LONGEST_PLAIN: usize = 32;
+
+/// The command of a line in its usual spelling: the name at its very front, one space before each
+/// field, and the LF behind the last. With it come the bytes from that LF on.
+#[inline(always)]
+pub(crate) fn plain_command(rest: &[u8]) -> Option<(Command, &[u8])>
+    ensures { IfSome result (λ f. SaysCommand rest.now f.0 f.1.now) }
+{
+    if rest.len() < LONGEST_PLAIN {
+        return None;
+    }
+    let (name, fields) = plain_name(rest)?;
+    let (command, after) = plain_front(name, fields)?;
+    if after.is_empty() || after[0] != b'\n' {
+        return None;
+    }
+    Some((command, after))
 }

@@ -1,68 +1,21 @@
 //! The bytes of a script that are not read yet.
 
-ghost use Rattle.std.specs.Prelude.{ℕ, List, ◌≡◌, ◌↔◌, ◌<◌, ◌≤◌, ◌+◌, ◌==◌, [], ◌∷◌, IfOk, IfErr, OnOk, length, drop, false, IsTrue, MatchOption, slice_index};
+ghost use Rattle.std.specs.Prelude.{ℕ, List, ◌≡◌, ◌↔◌, ◌<◌, ◌≤◌, ◌+◌, ◌==◌, [], ◌∷◌, IfOk, IfErr, OnOk, length, drop, IsTrue, MatchOption, slice_index};
 ghost use Rattle.std.specs.Str.Lines.{lines};
-ghost use Rattle.script_text.specs.Left.{ends_field, field_len, SameLeft, starts_with_blank, Taken, NoneLeft, fields_left, lines_after};
-ghost use Rattle.heap_terms.specs.Fields.{is_blank};
-ghost use Rattle.heap_terms.specs.Fields.{ranged, is_fixnum, signed_of, turns_of};
-ghost use Rattle.script_text.specs.Values.{one_by_one};
+ghost use Rattle.heap_terms.specs.Fields.{turns_of};
 ghost use Rattle.heap_terms.specs.declared.faults.Why.TheVariants.{Fields};
 ghost use Rattle.script_text.specs.Answers.{only_field};
-ghost use Rattle.script_text.specs.Words.{text_of_name};
-ghost use Rattle.script_text.specs.Commands.{Moved, but_first, in_first, a_cell, an_index};
+ghost use Rattle.script_text.specs.Commands.{Moved, but_first, in_first, a_cell, an_index, a_fixnum, SaysCommand};
+ghost use Rattle.script_text.specs.Left.{Taken, NoneLeft, fields_left, lines_after};
+ghost use Rattle.script_text.specs.Values.{one_by_one};
 
-use crate::plain::{plain_cell, plain_digit, plain_name};
-use crate::values::{Turns, cell, fixnum, number_up_to, turns_in};
-use crate::words::Name;
-use heap_terms::{Cell, Why};
+use crate::cells::cell;
+use crate::commands::plain_command;
+use crate::fields::{len_of_field, without_blanks};
+use crate::numbers::{fixnum, number_up_to};
+use crate::turns::{Turns, plain_digit, turns_in};
+use heap_terms::{Cell, Command, MOST_ELEMENTS, Why};
 use std::marker::Model;
-
-/// Whether a field ends at byte `at`: at a blank, at an LF or at a CR before an LF.
-fn field_ends_at(bytes: &[u8], at: usize) -> bool
-    requires { at < length bytes.now }
-    ensures { result ≡ ends_field (drop at bytes.now) }
-{
-    let byte = bytes[at];
-    if byte > b' ' {
-        return false;
-    }
-    match byte {
-        b' ' | b'\t' | b'\n' => true,
-        b'\r' => at + 1 < bytes.len() && bytes[at + 1] == b'\n',
-        _ => false,
-    }
-}
-
-/// How many bytes stand before the place where a field ends.
-fn len_of_field(bytes: &[u8]) -> usize
-    ensures { result ≡ field_len bytes.now }
-{
-    let mut len = 0;
-    while len < bytes.len() && !field_ends_at(bytes, len) {
-        len += 1;
-    }
-    len
-}
-
-/// Whether a byte parts fields: a space or a tab.
-fn parts_fields(byte: u8) -> bool
-    ensures { result ≡ is_blank byte }
-{
-    byte == b' ' || byte == b'\t'
-}
-
-/// The bytes after the blanks at their front.
-fn without_blanks(bytes: &[u8]) -> &[u8]
-    ensures same { SameLeft bytes.now result.now }
-    ensures solid { starts_with_blank result.now ≡ false }
-{
-    let mut start = 0;
-    while start < bytes.len() && parts_fields(bytes[start]) {
-        start += 1;
-    }
-    let (_, rest) = bytes.split_at(start);
-    rest
-}
 
 /// Where the bytes are that are not read yet.
 #[derive(Drop)]
@@ -93,6 +46,13 @@ impl<'a> Cursor<'a> {
         self.rest.is_empty()
     }
 
+    /// How many bytes are left.
+    pub(crate) fn len(&self) -> usize
+        ensures { result ≡ length self.now }
+    {
+        self.rest.len()
+    }
+
     /// The next field of the line.
     pub(crate) fn next_field(&mut self) -> Option<&'a [u8]>
         ensures { MatchOption result (NoneLeft self.old self.new) (λ field. Taken self.old field.now self.new) }
@@ -107,13 +67,14 @@ impl<'a> Cursor<'a> {
         Some(field)
     }
 
-    /// The name of a command in its usual spelling, at the very front of the line.
-    pub(crate) fn plain_name(&mut self) -> Option<Name>
-        ensures { MatchOption result (self.new ≡ self.old) (λ name. Taken self.old (text_of_name name) self.new) }
+    /// The command of a line in its usual spelling.
+    #[inline(always)]
+    pub(crate) fn plain_command(&mut self) -> Option<Command>
+        ensures { MatchOption result (self.new ≡ self.old) (λ command. SaysCommand self.old command self.new) }
     {
-        let (name, after) = plain_name(self.rest)?;
+        let (command, after) = plain_command(self.rest)?;
         self.rest = after;
-        Some(name)
+        Some(command)
     }
 
     /// The cursor at the same place.
@@ -154,10 +115,6 @@ impl<'a> Cursor<'a> {
         ensures value { result ≡ in_first a_cell (fields_left self.old) }
         ensures moved { OnOk result (Moved self.old self.new) }
     {
-        if let Some((cell, after)) = plain_cell(self.rest) {
-            self.rest = after;
-            return Ok(cell);
-        }
         let field = self.field()?;
         cell(field)
     }
@@ -167,17 +124,13 @@ impl<'a> Cursor<'a> {
         ensures value { result ≡ in_first an_index (fields_left self.old) }
         ensures moved { OnOk result (Moved self.old self.new) }
     {
-        if let Some((digit, after)) = plain_digit(self.rest) {
-            self.rest = after;
-            return Ok(u32::from(digit));
-        }
         let field = self.field()?;
-        number_up_to(field, 65535)
+        number_up_to(field, MOST_ELEMENTS)
     }
 
     /// A fixnum.
     pub(crate) fn fixnum(&mut self) -> Result<i64, Why>
-        ensures value { result ≡ in_first (λ f. ranged is_fixnum (signed_of f)) (fields_left self.old) }
+        ensures value { result ≡ in_first a_fixnum (fields_left self.old) }
         ensures moved { OnOk result (Moved self.old self.new) }
     {
         let field = self.field()?;

@@ -1,22 +1,23 @@
 //! Scripts as text: reading one, with the exact line and the exact reason where it is refused.
 #![tactic(auto)]
 
+mod cells;
 mod commands;
 mod cursor;
 mod faults;
-mod plain;
+mod fields;
+mod numbers;
 mod reader;
 mod schedules;
-mod values;
+#[cfg(test)]
+mod tests;
+mod turns;
 mod words;
 
 ghost use Rattle.std.specs.Prelude.{◌<◌, ◌-◌, ◌^◌, length, IfOk};
-ghost use Rattle.heap_terms.specs.Reading.{read_script};
+ghost use Rattle.heap_terms.specs.ScriptReading.{read_script};
 ghost use Rattle.heap_terms.specs.Valid.{IsValid};
 ghost use Rattle.script_text.specs.Gives.{Gives};
-
-#[cfg(test)]
-mod tests;
 
 use crate::cursor::Cursor;
 use crate::reader::Reader;
@@ -25,7 +26,8 @@ use heap_terms::{Program, Why};
 use std::alloc::Global;
 
 /// The program that a script says, or why it is refused: the first line that is bad decides, and on
-/// it the first check that fails. The bytes are read once; the memory taken is linear in the program.
+/// it the first check that fails. The bytes are read once; the memory taken is linear in the
+/// program.
 pub fn parse(alloc: Global, bytes: &[u8]) -> Result<Program, ScriptFault>
     requires { length bytes.now < 2 ^ 32 - 1 }
     // What is answered is what the script says; want of memory alone is free.

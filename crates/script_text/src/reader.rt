@@ -2,7 +2,7 @@
 
 ghost use Rattle.std.specs.Prelude.{◌≡◌, ◌<◌, ◌≤◌, ◌-◌, ◌^◌, ℕ, IsTrue, OnOk, OnErr, Ok, length, min, ok_or};
 ghost use Rattle.heap_terms.specs.Grammar.{Version, HeapOf, NewThread, Does, EndOfScript, schedule_of, statement_of};
-ghost use Rattle.heap_terms.specs.Reading.{within_limits, judged, judged_word, nothing_read, onto_last, finished, LineFault as MadeAt};
+ghost use Rattle.heap_terms.specs.ScriptReading.{within_limits, judged, judged_word, nothing_read, onto_last, finished, LineFault as MadeAt};
 ghost use Rattle.heap_terms.specs.declared.faults.Why.TheVariants.{Missing};
 ghost use Rattle.heap_terms.specs.Valid.{is_gc};
 ghost use Rattle.script_text.specs.Answers.{IsJudged};
@@ -14,21 +14,16 @@ use crate::cursor::Cursor;
 use crate::faults::LineFault;
 use crate::schedules::add_turns;
 use crate::words::{Keyword, Place, meaning_of};
-use heap_terms::{Command, Commands, LimitKind, Program, Scripts, Turns, Why};
+use heap_terms::{
+    Command, Commands, LimitKind, MOST_COMMANDS, MOST_GCS, MOST_PAGES, MOST_THREADS, Program,
+    Scripts, Turns, Why,
+};
 use std::alloc::{AllocFailed, Global};
 use std::marker::Model;
 
-/// How many pages a heap may have.
-const MOST_PAGES: u64 = 1024;
-
-/// How many threads a script may have.
-const MOST_THREADS: usize = 8;
-
-/// How many commands all threads may have.
-const MOST_COMMANDS: u32 = 20_000;
-
-/// How many of them may be `gc`.
-const MOST_GCS: u32 = 64;
+/// How many bytes a short line of a command has. It is a guess: where lines are shorter, a thread's
+/// list of commands grows.
+const SHORT_LINE: usize = 8;
 
 /// What the lines so far say.
 #[derive(Drop)]
@@ -42,7 +37,7 @@ pub(crate) struct Reader {
 }
 
 impl Model for Reader {
-    ghost use Rattle.heap_terms.specs.Reading.{SoFar};
+    ghost use Rattle.heap_terms.specs.ScriptReading.{SoFar};
 
     ghost Value = { SoFar };
 
@@ -89,7 +84,7 @@ impl Reader {
     fn heap(&mut self, pages: u64) -> Result<(), LineFault>
         ensures { (n : ℕ) → pages ≡ min n (2 ^ 64 - 1) → IsJudged result self.new (within_limits self.old (Ok (HeapOf n))) }
     {
-        if pages > MOST_PAGES {
+        if pages > u64::from(MOST_PAGES) {
             return Err(LineFault::Over(LimitKind::Pages));
         }
         self.pages = pages as u32;
@@ -97,19 +92,22 @@ impl Reader {
         Ok(())
     }
 
-    /// A thread, with no command yet.
-    fn thread(&mut self, alloc: Global) -> Result<(), LineFault>
+    /// A thread, with no command yet, and room for the commands that so many bytes can be.
+    fn thread(&mut self, alloc: Global, bytes: usize) -> Result<(), LineFault>
         ensures { IsJudged result self.new (within_limits self.old (Ok NewThread)) }
     {
-        if self.threads.len() >= MOST_THREADS {
+        if self.threads.len() >= MOST_THREADS as usize {
             return Err(LineFault::Over(LimitKind::Threads));
         }
-        self.threads.push(Commands::new(alloc))?;
+        let most = (MOST_COMMANDS - self.commands) as usize;
+        let commands = Vec::with_capacity(alloc, most.min(bytes / SHORT_LINE))?;
+        self.threads.push(Commands::from_vec(commands))?;
         self.place = Place::Thread;
         Ok(())
     }
 
     /// A command of the last thread.
+    #[inline(always)]
     #[tactic(auto, using(crate::proofs::Sums::counted))]
     fn command(&mut self, command: Command) -> Result<(), LineFault>
         ensures { IsJudged result self.new (within_limits self.old (Ok (Does command))) }
@@ -121,7 +119,8 @@ impl Reader {
         if collects && self.gcs >= MOST_GCS {
             return Err(LineFault::Over(LimitKind::Gcs));
         }
-        // Not reached, since a command stands behind a `thread` line: then there is no script to add it to.
+        // Not reached, since a command stands behind a `thread` line: then there is no script to
+        // add it to.
         if self.threads.is_empty() {
             self.place = Place::Thread;
             return Ok(());
@@ -173,7 +172,7 @@ impl Reader {
                 if !left.is_at_end() {
                     return Err(LineFault::Bad(Why::Fields));
                 }
-                self.thread(alloc)
+                self.thread(alloc, left.len())
             }
             Keyword::End => {
                 if !left.is_at_end() {
@@ -186,7 +185,7 @@ impl Reader {
     }
 
     /// A line with its word, wherever it stands.
-    #[tactic(auto, unfolding(heap_terms::specs::Reading::judged_word))]
+    #[tactic(auto, unfolding(heap_terms::specs::ScriptReading::judged_word))]
     fn placed(&mut self, alloc: Global, word: Keyword, left: &mut Cursor) -> Result<(), LineFault>
         ensures judged { IsJudged result self.new (judged_word self.old (text_of word) (fields_left left.old)) }
         ensures lines { OnOk result (lines_after left.new ≡ lines_after left.old) }
@@ -197,15 +196,29 @@ impl Reader {
         self.word(alloc, word, left)
     }
 
-    /// A line, from its first field on.
-    #[tactic(auto, unfolding(heap_terms::specs::Reading::judged, heap_terms::specs::Reading::judged_word))]
+    /// A line, from its first field on. The usual one is a command in its usual spelling.
+    #[inline(always)]
+    #[tactic(auto, using(crate::proofs::Plain::plain_judged))]
     pub(crate) fn line(&mut self, alloc: Global, left: &mut Cursor) -> Result<(), LineFault>
         ensures judged { IsJudged result self.new (judged self.old (fields_left left.old)) }
         ensures lines { OnOk result (lines_after left.new ≡ lines_after left.old) }
     {
-        if let Some(name) = left.plain_name() {
-            return self.placed(alloc, Keyword::Command(name), left);
+        if let Place::Thread = self.place {
+            if let Some(command) = left.plain_command() {
+                return self.command(command);
+            }
         }
+        self.any_line(alloc, left)
+    }
+
+    /// The same, whatever the line and its spelling.
+    #[cold]
+    #[inline(never)]
+    #[tactic(auto, unfolding(heap_terms::specs::ScriptReading::judged, heap_terms::specs::ScriptReading::judged_word))]
+    fn any_line(&mut self, alloc: Global, left: &mut Cursor) -> Result<(), LineFault>
+        ensures judged { IsJudged result self.new (judged self.old (fields_left left.old)) }
+        ensures lines { OnOk result (lines_after left.new ≡ lines_after left.old) }
+    {
         let Some(word) = left.next_field() else {
             return Ok(());
         };

@@ -1,9 +1,11 @@
-//! The words with which lines begin, and where such a line may stand.
+//! The words with which lines begin, and where such a line may stand. The name of a command is also
+//! read in its usual spelling, at the very front of the line and with one space after it.
 
-ghost use Rattle.std.specs.Prelude.{◌≡◌, false, MatchOption};
-ghost use Rattle.heap_terms.specs.Reading.{may_follow};
+ghost use Rattle.std.specs.Prelude.{◌≡◌, ◌-◌, false, take, MatchOption, IfSome};
+ghost use Rattle.heap_terms.specs.ScriptReading.{may_follow};
 ghost use Rattle.heap_terms.specs.Valid.{is_built};
-ghost use Rattle.script_text.specs.Words.{text_of, place_of};
+ghost use Rattle.script_text.specs.Left.{IsSpelled, Taken};
+ghost use Rattle.script_text.specs.Words.{text_of, text_of_name, place_of};
 
 /// The name of a command.
 #[derive(Clone, Copy)]
@@ -41,6 +43,36 @@ pub(crate) fn meaning_of(word: &[u8]) -> Option<Keyword>
         b"end" => Some(Keyword::End),
         b"heap" => Some(Keyword::Heap),
         b"lispheap" => Some(Keyword::Lispheap),
+        _ => None,
+    }
+}
+
+/// The bytes from a word's space on, where the word and that space stand at the front.
+#[inline(always)]
+fn plain_word<'a, const N: usize>(rest: &'a [u8], spelled: &[u8; N]) -> Option<&'a [u8]>
+    requires { IsSpelled spelled.now }
+    ensures { IfSome result (λ after. Taken rest.now (take (N - 1) spelled.now) after.now) }
+{
+    rest.strip_prefix(spelled.as_slice())?;
+    let (_, after) = rest.split_at(N - 1);
+    Some(after)
+}
+
+/// The name of a command with a space after it, and the bytes from that space on. No two names
+/// begin with one byte.
+#[inline(always)]
+pub(crate) fn plain_name(rest: &[u8]) -> Option<(Name, &[u8])>
+    ensures { IfSome result (λ f. Taken rest.now (text_of_name f.0) f.1.now) }
+{
+    if rest.is_empty() {
+        return None;
+    }
+    match rest[0] {
+        b'c' => Some((Name::Cons, plain_word(rest, b"cons ")?)),
+        b'g' => Some((Name::Get, plain_word(rest, b"get ")?)),
+        b'p' => Some((Name::Put, plain_word(rest, b"put ")?)),
+        b's' => Some((Name::Show, plain_word(rest, b"show ")?)),
+        b'f' => Some((Name::Fix, plain_word(rest, b"fix ")?)),
         _ => None,
     }
 }

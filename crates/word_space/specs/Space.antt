@@ -1,5 +1,6 @@
 -- The words of a heap as one list. Pages of 512 words, and at most 1,024 of them, are this project's own.
 use Rattle.std.specs.Prelude.{◌≡◌, ℕ, ◌+◌, ◌*◌, ◌-◌, ◌≤◌, List, ◌++◌, length, take, drop, replicate}
+use Rattle.heap_terms.specs.declared.limits.TheConstants.{MOST_PAGES}
 use Rattle.heap_terms.specs.Layout.{page_words}
 
 -- a space has a whole number of pages, from 1 to 1,024
@@ -7,7 +8,7 @@ pub record IsPaged (words : List ℕ) : Type 0 where
   pub pages : ℕ
   pub whole : length words ≡ page_words * pages
   pub least : 1 ≤ pages
-  pub most : pages ≤ 1024
+  pub most : pages ≤ MOST_PAGES
 
 -- the items after the n from `from` on were copied over those from `to` on
 abbrev pub copied : {A : Type 0} → List A → ℕ → ℕ → ℕ → List A

@@ -1,6 +1,7 @@
 //! The space of words.
 
 ghost use Rattle.std.specs.Prelude.{◌≡◌, ◌+◌, ◌*◌, ◌<◌, ◌≤◌, ◌⊎◌, length, replicate, slice_index, slice_set, IfOk};
+ghost use Rattle.heap_terms.specs.declared.limits.TheConstants.{MOST_PAGES};
 ghost use Rattle.heap_terms.specs.Layout.{page_words};
 ghost use Rattle.word_space.specs.Space.{copied};
 
@@ -31,7 +32,7 @@ impl Space {
     /// The space of 1 to 1,024 pages, with every word 0. It is refused only for want of memory.
     pub fn new(alloc: Global, pages: u32) -> Result<Space, Memory>
         requires least { 1 ≤ pages }
-        requires most { pages ≤ 1024 }
+        requires most { pages ≤ MOST_PAGES }
         ensures { IfOk result (λ space. space ≡ replicate (page_words * pages) 0) }
     {
         let words = Prefilled::new(alloc, (PAGE_WORDS * pages) as usize, 0)?;
@@ -42,7 +43,7 @@ impl Space {
     pub fn pages(&self) -> u32
         ensures whole { length self.now ≡ page_words * result }
         ensures least { 1 ≤ result }
-        ensures most { result ≤ 1024 }
+        ensures most { result ≤ MOST_PAGES }
     {
         self.words.len() as u32 / PAGE_WORDS
     }

@@ -2,19 +2,19 @@
 
 ghost use Rattle.std.specs.Prelude.{◌≡◌, ◌+◌, ◌≤◌, ◌++◌, OnOk, codes, flat_map};
 ghost use Rattle.heap_terms.specs.Text.{line, number_field, field, answer_text, refusal_text, name_text, index_text, value_text, word_text, page_text};
-ghost use Rattle.lispheap.specs.Room.{room};
 
-use super::fields::{
-    push, push_index_field, push_number, push_number_field, push_numbers, push_value, push_word,
-};
+use super::buffer::Text;
+use super::fields::{push, push_index_field, push_numbers, push_value, push_word};
+use super::numbers::{push_number, push_number_field};
 use super::pages::push_page;
+use super::room::{ANSWER_LINE, ARROW, NUMBER_FIELD, OBJECT, SIZES, VALUE_FIELD, WORD};
 use heap_terms::{Answer, PageView, Refusal, Value};
 use std::alloc::AllocError;
 
 /// Appends ` -> ` and an answer, and ends the line.
-pub(super) fn push_answer_line(out: &mut Vec<u8>, answer: &Answer) -> Result<(), AllocError>
-    requires { 88 ≤ room out.old }
-    ensures { OnOk result (out.new.items ≡ out.old.items ++ line (codes " -> " ++ answer_text answer.now)) }
+pub(super) fn push_answer_line(out: &mut Text, answer: &Answer) -> Result<(), AllocError>
+    requires { ANSWER_LINE ≤ out.old.room }
+    ensures { OnOk result (out.new.text ≡ out.old.text ++ line (codes " -> " ++ answer_text answer.now)) }
 {
     match answer {
         Answer::Done => push(out, b" -> ok\n"),
@@ -39,20 +39,20 @@ pub(super) fn push_answer_line(out: &mut Vec<u8>, answer: &Answer) -> Result<(),
     Ok(())
 }
 
-// Appends a value.
-fn push_value_line(out: &mut Vec<u8>, v: Value)
-    requires { 26 ≤ room out.old }
-    ensures { out.new.items ≡ out.old.items ++ line (codes " -> " ++ value_text v) }
+/// Appends a value.
+fn push_value_line(out: &mut Text, v: Value)
+    requires { ARROW + VALUE_FIELD ≤ out.old.room }
+    ensures { out.new.text ≡ out.old.text ++ line (codes " -> " ++ value_text v) }
 {
     push(out, b" ->");
     push_value(out, v);
     push(out, b"\n");
 }
 
-// Appends a name and an index.
-fn push_placed_line(out: &mut Vec<u8>, name: u32, index: u32)
-    requires { 48 ≤ room out.old }
-    ensures { out.new.items ≡ out.old.items ++ line (codes " -> " ++ (name_text name ++ field (index_text index))) }
+/// Appends a name and an index.
+fn push_placed_line(out: &mut Text, name: u32, index: u32)
+    requires { ARROW + OBJECT ≤ out.old.room }
+    ensures { out.new.text ≡ out.old.text ++ line (codes " -> " ++ (name_text name ++ field (index_text index))) }
 {
     push(out, b" -> #");
     push_number(out, name as u64);
@@ -60,40 +60,40 @@ fn push_placed_line(out: &mut Vec<u8>, name: u32, index: u32)
     push(out, b"\n");
 }
 
-// Appends a raw word.
-fn push_word_line(out: &mut Vec<u8>, w: u64)
-    requires { 23 ≤ room out.old }
-    ensures { out.new.items ≡ out.old.items ++ line (codes " -> " ++ word_text w) }
+/// Appends a raw word.
+fn push_word_line(out: &mut Text, w: u64)
+    requires { ARROW + WORD + 1 ≤ out.old.room }
+    ensures { out.new.text ≡ out.old.text ++ line (codes " -> " ++ word_text w) }
 {
     push(out, b" -> ");
     push_word(out, w);
     push(out, b"\n");
 }
 
-// Appends what a weak pointer refers to.
-fn push_live_line(out: &mut Vec<u8>, v: Value)
-    requires { 31 ≤ room out.old }
-    ensures { out.new.items ≡ out.old.items ++ line (codes " -> " ++ (codes "live" ++ field (value_text v))) }
+/// Appends what a weak pointer refers to.
+fn push_live_line(out: &mut Text, v: Value)
+    requires { ARROW + 4 + VALUE_FIELD + 1 ≤ out.old.room }
+    ensures { out.new.text ≡ out.old.text ++ line (codes " -> " ++ (codes "live" ++ field (value_text v))) }
 {
     push(out, b" -> live");
     push_value(out, v);
     push(out, b"\n");
 }
 
-// Appends how many there are.
-fn push_count_line(out: &mut Vec<u8>, n: u64)
-    requires { 25 ≤ room out.old }
-    ensures { out.new.items ≡ out.old.items ++ line (codes " ->" ++ number_field n) }
+/// Appends how many there are.
+fn push_count_line(out: &mut Text, n: u64)
+    requires { ARROW + NUMBER_FIELD ≤ out.old.room }
+    ensures { out.new.text ≡ out.old.text ++ line (codes " ->" ++ number_field n) }
 {
     push(out, b" ->");
     push_number_field(out, n);
     push(out, b"\n");
 }
 
-// Appends the numbers of the finalizers that ran.
-fn push_ran_line(out: &mut Vec<u8>, ids: &[u32]) -> Result<(), AllocError>
-    requires { 7 ≤ room out.old }
-    ensures { OnOk result (out.new.items ≡ out.old.items ++ line (codes " -> " ++ (codes "ran" ++ flat_map number_field ids.now))) }
+/// Appends the numbers of the finalizers that ran.
+fn push_ran_line(out: &mut Text, ids: &[u32]) -> Result<(), AllocError>
+    requires { ARROW + 3 ≤ out.old.room }
+    ensures { OnOk result (out.new.text ≡ out.old.text ++ line (codes " -> " ++ (codes "ran" ++ flat_map number_field ids.now))) }
 {
     push(out, b" -> ran");
     push_numbers(out, ids)?;
@@ -102,10 +102,10 @@ fn push_ran_line(out: &mut Vec<u8>, ids: &[u32]) -> Result<(), AllocError>
     Ok(())
 }
 
-// Appends what stands on a page.
-fn push_page_line(out: &mut Vec<u8>, view: &PageView) -> Result<(), AllocError>
-    requires { 4 ≤ room out.old }
-    ensures { OnOk result (out.new.items ≡ out.old.items ++ line (codes " -> " ++ page_text view.now)) }
+/// Appends what stands on a page.
+fn push_page_line(out: &mut Text, view: &PageView) -> Result<(), AllocError>
+    requires { ARROW ≤ out.old.room }
+    ensures { OnOk result (out.new.text ≡ out.old.text ++ line (codes " -> " ++ page_text view.now)) }
 {
     push(out, b" -> ");
     push_page(out, view)?;
@@ -114,10 +114,10 @@ fn push_page_line(out: &mut Vec<u8>, view: &PageView) -> Result<(), AllocError>
     Ok(())
 }
 
-// Appends why a command was refused.
-fn push_refusal_line(out: &mut Vec<u8>, refusal: Refusal)
-    requires { 16 ≤ room out.old }
-    ensures { out.new.items ≡ out.old.items ++ line (codes " -> " ++ refusal_text refusal) }
+/// Appends why a command was refused.
+fn push_refusal_line(out: &mut Text, refusal: Refusal)
+    requires { ARROW + 12 ≤ out.old.room }
+    ensures { out.new.text ≡ out.old.text ++ line (codes " -> " ++ refusal_text refusal) }
 {
     match refusal {
         Refusal::NotType => push(out, b" -> !type\n"),
@@ -129,10 +129,10 @@ fn push_refusal_line(out: &mut Vec<u8>, refusal: Refusal)
     }
 }
 
-// Appends the numbers of a generation.
-fn push_stat_line(out: &mut Vec<u8>, allocated: u64, cum: u64, num: u32)
-    requires { 85 ≤ room out.old }
-    ensures { out.new.items ≡ out.old.items ++ line (codes " -> " ++ (codes "allocated" ++ number_field allocated
+/// Appends the numbers of a generation.
+fn push_stat_line(out: &mut Text, allocated: u64, cum: u64, num: u32)
+    requires { ANSWER_LINE ≤ out.old.room }
+    ensures { out.new.text ≡ out.old.text ++ line (codes " -> " ++ (codes "allocated" ++ number_field allocated
         ++ codes " cum" ++ number_field cum ++ codes " num" ++ number_field num)) }
 {
     push(out, b" -> ");
@@ -142,12 +142,12 @@ fn push_stat_line(out: &mut Vec<u8>, allocated: u64, cum: u64, num: u32)
     push(out, b"\n");
 }
 
-// Appends the first two numbers of a generation.
-fn push_sizes(out: &mut Vec<u8>, allocated: u64, cum: u64)
-    requires { 55 ≤ room out.old }
-    ensures text { out.new.items ≡ out.old.items
+/// Appends the first two numbers of a generation.
+fn push_sizes(out: &mut Text, allocated: u64, cum: u64)
+    requires { SIZES ≤ out.old.room }
+    ensures text { out.new.text ≡ out.old.text
         ++ (codes "allocated" ++ number_field allocated ++ codes " cum" ++ number_field cum) }
-    ensures room { room out.old ≤ room out.new + 55 }
+    ensures room { out.old.room ≤ out.new.room + SIZES }
 {
     push(out, b"allocated");
     push_number_field(out, allocated);

@@ -1,20 +1,21 @@
 //! A command as a script spells it, with the space before it.
 
-ghost use Rattle.std.specs.Prelude.{◌≡◌, ◌+◌, ◌≤◌, ◌++◌, codes};
+ghost use Rattle.std.specs.Prelude.{◌≡◌, ◌+◌, ◌*◌, ◌≤◌, ◌++◌, codes};
 ghost use Rattle.std.specs.Fmt.{signed_decimal};
 ghost use Rattle.heap_terms.specs.Text.{cell_field, raw_field, number_field, field, word_text, weakness_text, command_text};
-ghost use Rattle.lispheap.specs.Room.{room};
 
-use super::fields::{
-    push, push_cell, push_number_field, push_raw, push_signed_field, push_word_field,
-};
+use super::buffer::Text;
+use super::fields::{push, push_cell, push_raw, push_word_field};
+use super::numbers::{push_number_field, push_signed_field};
+use super::room::{CELL_FIELD, COMMAND, NUMBER_FIELD, WEAKNESS_FIELD, WORD_FIELD};
 use heap_terms::{Cell, Command, Raw, Weakness};
 
 /// Appends a command as a field.
-pub(super) fn push_command(out: &mut Vec<u8>, command: &Command)
-    requires { 52 ≤ room out.old }
-    ensures text { out.new.items ≡ out.old.items ++ field (command_text command.now) }
-    ensures room { room out.old ≤ room out.new + 52 }
+#[inline(always)]
+pub(super) fn push_command(out: &mut Text, command: &Command)
+    requires { COMMAND ≤ out.old.room }
+    ensures text { out.new.text ≡ out.old.text ++ field (command_text command.now) }
+    ensures room { out.old.room ≤ out.new.room + COMMAND }
 {
     match *command {
         Command::Fix { d, n } => with_signed(out, b" fix", d, n),
@@ -55,20 +56,20 @@ pub(super) fn push_command(out: &mut Vec<u8>, command: &Command)
 }
 
 #[inline(always)]
-fn with_cell<const N: usize>(out: &mut Vec<u8>, name: &[u8; N], a: Cell)
-    requires { N + 5 ≤ room out.old }
-    ensures text { out.new.items ≡ out.old.items ++ (name.now ++ cell_field a) }
-    ensures room { room out.old ≤ room out.new + (N + 5) }
+fn with_cell<const N: usize>(out: &mut Text, name: &[u8; N], a: Cell)
+    requires { N + CELL_FIELD ≤ out.old.room }
+    ensures text { out.new.text ≡ out.old.text ++ (name.now ++ cell_field a) }
+    ensures room { out.old.room ≤ out.new.room + (N + CELL_FIELD) }
 {
     push(out, name);
     push_cell(out, a);
 }
 
 #[inline(always)]
-fn with_two<const N: usize>(out: &mut Vec<u8>, name: &[u8; N], a: Cell, b: Cell)
-    requires { N + 10 ≤ room out.old }
-    ensures text { out.new.items ≡ out.old.items ++ (name.now ++ (cell_field a ++ cell_field b)) }
-    ensures room { room out.old ≤ room out.new + (N + 10) }
+fn with_two<const N: usize>(out: &mut Text, name: &[u8; N], a: Cell, b: Cell)
+    requires { N + 2 * CELL_FIELD ≤ out.old.room }
+    ensures text { out.new.text ≡ out.old.text ++ (name.now ++ (cell_field a ++ cell_field b)) }
+    ensures room { out.old.room ≤ out.new.room + (N + 2 * CELL_FIELD) }
 {
     push(out, name);
     push_cell(out, a);
@@ -76,10 +77,10 @@ fn with_two<const N: usize>(out: &mut Vec<u8>, name: &[u8; N], a: Cell, b: Cell)
 }
 
 #[inline(always)]
-fn with_three<const N: usize>(out: &mut Vec<u8>, name: &[u8; N], a: Cell, b: Cell, c: Cell)
-    requires { N + 15 ≤ room out.old }
-    ensures text { out.new.items ≡ out.old.items ++ (name.now ++ (cell_field a ++ cell_field b ++ cell_field c)) }
-    ensures room { room out.old ≤ room out.new + (N + 15) }
+fn with_three<const N: usize>(out: &mut Text, name: &[u8; N], a: Cell, b: Cell, c: Cell)
+    requires { N + 3 * CELL_FIELD ≤ out.old.room }
+    ensures text { out.new.text ≡ out.old.text ++ (name.now ++ (cell_field a ++ cell_field b ++ cell_field c)) }
+    ensures room { out.old.room ≤ out.new.room + (N + 3 * CELL_FIELD) }
 {
     push(out, name);
     push_cell(out, a);
@@ -88,10 +89,10 @@ fn with_three<const N: usize>(out: &mut Vec<u8>, name: &[u8; N], a: Cell, b: Cel
 }
 
 #[inline(always)]
-fn with_signed<const N: usize>(out: &mut Vec<u8>, name: &[u8; N], a: Cell, n: i64)
-    requires { N + 26 ≤ room out.old }
-    ensures text { out.new.items ≡ out.old.items ++ (name.now ++ (cell_field a ++ field (signed_decimal n))) }
-    ensures room { room out.old ≤ room out.new + (N + 26) }
+fn with_signed<const N: usize>(out: &mut Text, name: &[u8; N], a: Cell, n: i64)
+    requires { N + CELL_FIELD + NUMBER_FIELD ≤ out.old.room }
+    ensures text { out.new.text ≡ out.old.text ++ (name.now ++ (cell_field a ++ field (signed_decimal n))) }
+    ensures room { out.old.room ≤ out.new.room + (N + CELL_FIELD + NUMBER_FIELD) }
 {
     push(out, name);
     push_cell(out, a);
@@ -99,10 +100,10 @@ fn with_signed<const N: usize>(out: &mut Vec<u8>, name: &[u8; N], a: Cell, n: i6
 }
 
 #[inline(always)]
-fn with_number<const N: usize>(out: &mut Vec<u8>, name: &[u8; N], a: Cell, n: u32)
-    requires { N + 26 ≤ room out.old }
-    ensures text { out.new.items ≡ out.old.items ++ (name.now ++ (cell_field a ++ number_field n)) }
-    ensures room { room out.old ≤ room out.new + (N + 26) }
+fn with_number<const N: usize>(out: &mut Text, name: &[u8; N], a: Cell, n: u32)
+    requires { N + CELL_FIELD + NUMBER_FIELD ≤ out.old.room }
+    ensures text { out.new.text ≡ out.old.text ++ (name.now ++ (cell_field a ++ number_field n)) }
+    ensures room { out.old.room ≤ out.new.room + (N + CELL_FIELD + NUMBER_FIELD) }
 {
     push(out, name);
     push_cell(out, a);
@@ -110,10 +111,10 @@ fn with_number<const N: usize>(out: &mut Vec<u8>, name: &[u8; N], a: Cell, n: u3
 }
 
 #[inline(always)]
-fn with_two_and_number<const N: usize>(out: &mut Vec<u8>, name: &[u8; N], a: Cell, b: Cell, n: u32)
-    requires { N + 31 ≤ room out.old }
-    ensures text { out.new.items ≡ out.old.items ++ (name.now ++ (cell_field a ++ cell_field b ++ number_field n)) }
-    ensures room { room out.old ≤ room out.new + (N + 31) }
+fn with_two_and_number<const N: usize>(out: &mut Text, name: &[u8; N], a: Cell, b: Cell, n: u32)
+    requires { N + 2 * CELL_FIELD + NUMBER_FIELD ≤ out.old.room }
+    ensures text { out.new.text ≡ out.old.text ++ (name.now ++ (cell_field a ++ cell_field b ++ number_field n)) }
+    ensures room { out.old.room ≤ out.new.room + (N + 2 * CELL_FIELD + NUMBER_FIELD) }
 {
     push(out, name);
     push_cell(out, a);
@@ -122,20 +123,20 @@ fn with_two_and_number<const N: usize>(out: &mut Vec<u8>, name: &[u8; N], a: Cel
 }
 
 #[inline(always)]
-fn with_number_alone<const N: usize>(out: &mut Vec<u8>, name: &[u8; N], n: u32)
-    requires { N + 21 ≤ room out.old }
-    ensures text { out.new.items ≡ out.old.items ++ (name.now ++ number_field n) }
-    ensures room { room out.old ≤ room out.new + (N + 21) }
+fn with_number_alone<const N: usize>(out: &mut Text, name: &[u8; N], n: u32)
+    requires { N + NUMBER_FIELD ≤ out.old.room }
+    ensures text { out.new.text ≡ out.old.text ++ (name.now ++ number_field n) }
+    ensures room { out.old.room ≤ out.new.room + (N + NUMBER_FIELD) }
 {
     push(out, name);
     push_number_field(out, n as u64);
 }
 
 #[inline(always)]
-fn with_put(out: &mut Vec<u8>, c: Cell, i: u32, a: Cell)
-    requires { 35 ≤ room out.old }
-    ensures text { out.new.items ≡ out.old.items ++ field (codes "put" ++ (cell_field c ++ number_field i ++ cell_field a)) }
-    ensures room { room out.old ≤ room out.new + 35 }
+fn with_put(out: &mut Text, c: Cell, i: u32, a: Cell)
+    requires { 4 + 2 * CELL_FIELD + NUMBER_FIELD ≤ out.old.room }
+    ensures text { out.new.text ≡ out.old.text ++ field (codes "put" ++ (cell_field c ++ number_field i ++ cell_field a)) }
+    ensures room { out.old.room ≤ out.new.room + (4 + 2 * CELL_FIELD + NUMBER_FIELD) }
 {
     push(out, b" put");
     push_cell(out, c);
@@ -143,10 +144,10 @@ fn with_put(out: &mut Vec<u8>, c: Cell, i: u32, a: Cell)
     push_cell(out, a);
 }
 
-fn with_words(out: &mut Vec<u8>, d: Cell, n: u32, w: u64)
-    requires { 51 ≤ room out.old }
-    ensures text { out.new.items ≡ out.old.items ++ field (codes "words" ++ (cell_field d ++ number_field n ++ field (word_text w))) }
-    ensures room { room out.old ≤ room out.new + 51 }
+fn with_words(out: &mut Text, d: Cell, n: u32, w: u64)
+    requires { COMMAND ≤ out.old.room }
+    ensures text { out.new.text ≡ out.old.text ++ field (codes "words" ++ (cell_field d ++ number_field n ++ field (word_text w))) }
+    ensures room { out.old.room ≤ out.new.room + COMMAND }
 {
     push(out, b" words");
     push_cell(out, d);
@@ -154,10 +155,10 @@ fn with_words(out: &mut Vec<u8>, d: Cell, n: u32, w: u64)
     push_word_field(out, w);
 }
 
-fn with_table(out: &mut Vec<u8>, d: Cell, w: Weakness, b: u32)
-    requires { 46 ≤ room out.old }
-    ensures text { out.new.items ≡ out.old.items ++ field (codes "table" ++ (cell_field d ++ field (weakness_text w) ++ number_field b)) }
-    ensures room { room out.old ≤ room out.new + 46 }
+fn with_table(out: &mut Text, d: Cell, w: Weakness, b: u32)
+    requires { 6 + CELL_FIELD + WEAKNESS_FIELD + NUMBER_FIELD ≤ out.old.room }
+    ensures text { out.new.text ≡ out.old.text ++ field (codes "table" ++ (cell_field d ++ field (weakness_text w) ++ number_field b)) }
+    ensures room { out.old.room ≤ out.new.room + (6 + CELL_FIELD + WEAKNESS_FIELD + NUMBER_FIELD) }
 {
     push(out, b" table");
     push_cell(out, d);
@@ -165,10 +166,10 @@ fn with_table(out: &mut Vec<u8>, d: Cell, w: Weakness, b: u32)
     push_number_field(out, b as u64);
 }
 
-fn push_weakness(out: &mut Vec<u8>, w: Weakness)
-    requires { 14 ≤ room out.old }
-    ensures text { out.new.items ≡ out.old.items ++ field (weakness_text w) }
-    ensures room { room out.old ≤ room out.new + 14 }
+fn push_weakness(out: &mut Text, w: Weakness)
+    requires { WEAKNESS_FIELD ≤ out.old.room }
+    ensures text { out.new.text ≡ out.old.text ++ field (weakness_text w) }
+    ensures room { out.old.room ≤ out.new.room + WEAKNESS_FIELD }
 {
     match w {
         Weakness::Strong => push(out, b" strong"),
@@ -179,10 +180,10 @@ fn push_weakness(out: &mut Vec<u8>, w: Weakness)
     }
 }
 
-fn with_raw_get(out: &mut Vec<u8>, r: Raw, c: Cell, i: u32)
-    requires { 38 ≤ room out.old }
-    ensures text { out.new.items ≡ out.old.items ++ field (codes "rawget" ++ (raw_field r ++ cell_field c ++ number_field i)) }
-    ensures room { room out.old ≤ room out.new + 38 }
+fn with_raw_get(out: &mut Text, r: Raw, c: Cell, i: u32)
+    requires { 7 + 2 * CELL_FIELD + NUMBER_FIELD ≤ out.old.room }
+    ensures text { out.new.text ≡ out.old.text ++ field (codes "rawget" ++ (raw_field r ++ cell_field c ++ number_field i)) }
+    ensures room { out.old.room ≤ out.new.room + (7 + 2 * CELL_FIELD + NUMBER_FIELD) }
 {
     push(out, b" rawget");
     push_raw(out, r);
@@ -190,10 +191,10 @@ fn with_raw_get(out: &mut Vec<u8>, r: Raw, c: Cell, i: u32)
     push_number_field(out, i as u64);
 }
 
-fn with_raw_put(out: &mut Vec<u8>, c: Cell, i: u32, r: Raw)
-    requires { 38 ≤ room out.old }
-    ensures text { out.new.items ≡ out.old.items ++ field (codes "rawput" ++ (cell_field c ++ number_field i ++ raw_field r)) }
-    ensures room { room out.old ≤ room out.new + 38 }
+fn with_raw_put(out: &mut Text, c: Cell, i: u32, r: Raw)
+    requires { 7 + 2 * CELL_FIELD + NUMBER_FIELD ≤ out.old.room }
+    ensures text { out.new.text ≡ out.old.text ++ field (codes "rawput" ++ (cell_field c ++ number_field i ++ raw_field r)) }
+    ensures room { out.old.room ≤ out.new.room + (7 + 2 * CELL_FIELD + NUMBER_FIELD) }
 {
     push(out, b" rawput");
     push_cell(out, c);
@@ -201,30 +202,30 @@ fn with_raw_put(out: &mut Vec<u8>, c: Cell, i: u32, r: Raw)
     push_raw(out, r);
 }
 
-fn with_addr(out: &mut Vec<u8>, r: Raw, c: Cell)
-    requires { 15 ≤ room out.old }
-    ensures text { out.new.items ≡ out.old.items ++ field (codes "addr" ++ (raw_field r ++ cell_field c)) }
-    ensures room { room out.old ≤ room out.new + 15 }
+fn with_addr(out: &mut Text, r: Raw, c: Cell)
+    requires { 5 + 2 * CELL_FIELD ≤ out.old.room }
+    ensures text { out.new.text ≡ out.old.text ++ field (codes "addr" ++ (raw_field r ++ cell_field c)) }
+    ensures room { out.old.room ≤ out.new.room + (5 + 2 * CELL_FIELD) }
 {
     push(out, b" addr");
     push_raw(out, r);
     push_cell(out, c);
 }
 
-fn with_raw_word(out: &mut Vec<u8>, r: Raw, w: u64)
-    requires { 28 ≤ room out.old }
-    ensures text { out.new.items ≡ out.old.items ++ field (codes "raw" ++ (raw_field r ++ field (word_text w))) }
-    ensures room { room out.old ≤ room out.new + 28 }
+fn with_raw_word(out: &mut Text, r: Raw, w: u64)
+    requires { 4 + CELL_FIELD + WORD_FIELD ≤ out.old.room }
+    ensures text { out.new.text ≡ out.old.text ++ field (codes "raw" ++ (raw_field r ++ field (word_text w))) }
+    ensures room { out.old.room ≤ out.new.room + (4 + CELL_FIELD + WORD_FIELD) }
 {
     push(out, b" raw");
     push_raw(out, r);
     push_word_field(out, w);
 }
 
-fn with_raw_add(out: &mut Vec<u8>, r: Raw, k: i64)
-    requires { 30 ≤ room out.old }
-    ensures text { out.new.items ≡ out.old.items ++ field (codes "add" ++ (raw_field r ++ field (signed_decimal k))) }
-    ensures room { room out.old ≤ room out.new + 30 }
+fn with_raw_add(out: &mut Text, r: Raw, k: i64)
+    requires { 4 + CELL_FIELD + NUMBER_FIELD ≤ out.old.room }
+    ensures text { out.new.text ≡ out.old.text ++ field (codes "add" ++ (raw_field r ++ field (signed_decimal k))) }
+    ensures room { out.old.room ≤ out.new.room + (4 + CELL_FIELD + NUMBER_FIELD) }
 {
     push(out, b" add");
     push_raw(out, r);

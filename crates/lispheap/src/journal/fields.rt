@@ -3,182 +3,26 @@
 ghost use Rattle.std.specs.Prelude.{◌≡◌, ◌+◌, ◌/◌, ◌%◌, ◌<◌, ◌≤◌, [], ◌∷◌, ◌++◌, OnOk, codes, decimal, flat_map};
 ghost use Rattle.std.specs.Fmt.{signed_decimal};
 ghost use Rattle.heap_terms.specs.Text.{cell_text, cell_field, raw_field, number_field, field, hex_digit, hex_digits, word_text, name_text, index_text, value_text};
-ghost use Rattle.lispheap.specs.Room.{room};
 
+use super::buffer::Text;
+use super::numbers::{push_number, push_number_field, push_signed_field, push_small};
+use super::room::{
+    CELL_FIELD, INDEX, INDEX_FIELD, NAME_FIELD, NUMBER, NUMBER_FIELD, VALUE_FIELD, WORD, WORD_FIELD,
+};
 use heap_terms::{Cell, Raw, Value};
-use itoa::Buffer;
 use std::alloc::AllocError;
 
 /// Appends a few bytes for which there is room.
 #[inline(always)]
-pub(super) fn push<const N: usize>(out: &mut Vec<u8>, bytes: &[u8; N])
-    requires { N ≤ room out.old }
-    ensures text { out.new.items ≡ out.old.items ++ bytes.now }
-    ensures room { room out.old ≤ room out.new + N }
+pub(super) fn push<const N: usize>(out: &mut Text, bytes: &[u8; N])
+    requires { N ≤ out.old.room }
+    ensures text { out.new.text ≡ out.old.text ++ bytes.now }
+    ensures room { out.old.room ≤ out.new.room + N }
 {
-    for i in 0..N {
-        out.push_reserved(bytes[i]);
-    }
+    out.push(bytes);
 }
 
-// The glyph of a digit.
-#[inline(always)]
-fn glyph(digit: u32) -> u8
-    requires { digit < 10 }
-    ensures { result ≡ 48 + digit }
-{
-    b'0' + digit as u8
-}
-
-// Appends two digits.
-#[inline(always)]
-#[tactic(auto, using(crate::proofs::Decimals::decimal_two))]
-fn push_two_digits(out: &mut Vec<u8>, n: u32)
-    requires least { 10 ≤ n }
-    requires most { n < 100 }
-    requires room { 2 ≤ room out.old }
-    ensures text { out.new.items ≡ out.old.items ++ decimal n }
-    ensures room { room out.old ≤ room out.new + 2 }
-{
-    push(out, &[glyph(n / 10), glyph(n % 10)]);
-}
-
-// Appends three digits.
-#[inline(always)]
-#[tactic(auto, using(crate::proofs::Decimals::decimal_three))]
-fn push_three_digits(out: &mut Vec<u8>, n: u32)
-    requires least { 100 ≤ n }
-    requires most { n < 1000 }
-    requires room { 3 ≤ room out.old }
-    ensures text { out.new.items ≡ out.old.items ++ decimal n }
-    ensures room { room out.old ≤ room out.new + 3 }
-{
-    let tens = n / 10;
-    push(out, &[glyph(tens / 10), glyph(tens % 10), glyph(n % 10)]);
-}
-
-// Appends four digits.
-#[inline(always)]
-#[tactic(auto, using(crate::proofs::Decimals::decimal_four))]
-fn push_four_digits(out: &mut Vec<u8>, n: u32)
-    requires least { 1000 ≤ n }
-    requires most { n < 10000 }
-    requires room { 4 ≤ room out.old }
-    ensures text { out.new.items ≡ out.old.items ++ decimal n }
-    ensures room { room out.old ≤ room out.new + 4 }
-{
-    let tens = n / 10;
-    let hundreds = tens / 10;
-    push(
-        out,
-        &[
-            glyph(hundreds / 10),
-            glyph(hundreds % 10),
-            glyph(tens % 10),
-            glyph(n % 10),
-        ],
-    );
-}
-
-// Appends five digits.
-#[inline(always)]
-#[tactic(auto, using(crate::proofs::Decimals::decimal_five))]
-fn push_five_digits(out: &mut Vec<u8>, n: u32)
-    requires least { 10000 ≤ n }
-    requires most { n < 100000 }
-    requires room { 5 ≤ room out.old }
-    ensures text { out.new.items ≡ out.old.items ++ decimal n }
-    ensures room { room out.old ≤ room out.new + 5 }
-{
-    let tens = n / 10;
-    let hundreds = tens / 10;
-    let thousands = hundreds / 10;
-    push(
-        out,
-        &[
-            glyph(thousands / 10),
-            glyph(thousands % 10),
-            glyph(hundreds % 10),
-            glyph(tens % 10),
-            glyph(n % 10),
-        ],
-    );
-}
-
-// Appends a number of any length.
-#[inline(never)]
-fn push_long(out: &mut Vec<u8>, n: u64)
-    requires { 20 ≤ room out.old }
-    ensures text { out.new.items ≡ out.old.items ++ decimal n }
-    ensures room { room out.old ≤ room out.new + 20 }
-{
-    let mut buffer = Buffer::new();
-    out.extend_from_slice(buffer.format(n).as_bytes()).unwrap();
-}
-
-/// Appends a number in decimal digits.
-#[tactic(auto, using(std::proofs::lemmas::Fmt::decimal_digit))]
-pub(super) fn push_number(out: &mut Vec<u8>, n: u64)
-    requires { 20 ≤ room out.old }
-    ensures text { out.new.items ≡ out.old.items ++ decimal n }
-    ensures room { room out.old ≤ room out.new + 20 }
-{
-    if n < 10 {
-        push(out, &[glyph(n as u32)]);
-    } else if n < 100 {
-        push_two_digits(out, n as u32);
-    } else if n < 1000 {
-        push_three_digits(out, n as u32);
-    } else if n < 10_000 {
-        push_four_digits(out, n as u32);
-    } else if n < 100_000 {
-        push_five_digits(out, n as u32);
-    } else {
-        push_long(out, n);
-    }
-}
-
-/// Appends a number as a field.
-#[inline]
-#[tactic(auto, using(std::proofs::lemmas::Fmt::decimal_digit))]
-pub(super) fn push_number_field(out: &mut Vec<u8>, n: u64)
-    requires { 21 ≤ room out.old }
-    ensures text { out.new.items ≡ out.old.items ++ number_field n }
-    ensures room { room out.old ≤ room out.new + 21 }
-{
-    if n < 10 {
-        push(out, &[b' ', glyph(n as u32)]);
-    } else {
-        push(out, b" ");
-        push_number(out, n);
-    }
-}
-
-/// Appends a signed number.
-pub(super) fn push_signed(out: &mut Vec<u8>, n: i64)
-    requires { 20 ≤ room out.old }
-    ensures text { out.new.items ≡ out.old.items ++ signed_decimal n }
-    ensures room { room out.old ≤ room out.new + 20 }
-{
-    if 0 <= n {
-        push_number(out, n as u64);
-    } else {
-        let mut buffer = Buffer::new();
-        out.extend_from_slice(buffer.format(n).as_bytes()).unwrap();
-    }
-}
-
-/// Appends a signed number as a field.
-pub(super) fn push_signed_field(out: &mut Vec<u8>, n: i64)
-    requires { 21 ≤ room out.old }
-    ensures text { out.new.items ≡ out.old.items ++ field (signed_decimal n) }
-    ensures room { room out.old ≤ room out.new + 21 }
-{
-    push(out, b" ");
-    push_signed(out, n);
-}
-
-// The letter and the number of a cell.
+/// The letter and the number of a cell.
 #[inline(always)]
 fn parts_of(c: Cell) -> (u8, u8)
     ensures { cell_text c ≡ result.0 ∷ decimal result.1 }
@@ -190,45 +34,45 @@ fn parts_of(c: Cell) -> (u8, u8)
     }
 }
 
-// Appends a field that is a letter and a number.
+/// Appends a field that is a letter and a number.
 #[inline(always)]
 #[tactic(auto, using(std::proofs::lemmas::Fmt::decimal_digit, crate::proofs::Decimals::decimal_two))]
-fn push_lettered(out: &mut Vec<u8>, letter: u8, i: u8)
-    requires { 5 ≤ room out.old }
-    ensures text { out.new.items ≡ out.old.items ++ field (letter ∷ decimal i) }
-    ensures room { room out.old ≤ room out.new + 5 }
+fn push_lettered(out: &mut Text, letter: u8, i: u8)
+    requires { CELL_FIELD ≤ out.old.room }
+    ensures text { out.new.text ≡ out.old.text ++ field (letter ∷ decimal i) }
+    ensures room { out.old.room ≤ out.new.room + CELL_FIELD }
 {
     if i < 10 {
         push(out, &[b' ', letter, b'0' + i]);
-    } else if i < 100 {
-        push(out, &[b' ', letter, b'0' + i / 10, b'0' + i % 10]);
+    } else if i < 20 {
+        push(out, &[b' ', letter, b'1', b'0' - 10 + i]);
     } else {
         push(out, &[b' ', letter]);
-        push_three_digits(out, i as u32);
+        push_small(out, i);
     }
 }
 
 /// Appends a cell as a field.
 #[inline]
-pub(super) fn push_cell(out: &mut Vec<u8>, c: Cell)
-    requires { 5 ≤ room out.old }
-    ensures text { out.new.items ≡ out.old.items ++ cell_field c }
-    ensures room { room out.old ≤ room out.new + 5 }
+pub(super) fn push_cell(out: &mut Text, c: Cell)
+    requires { CELL_FIELD ≤ out.old.room }
+    ensures text { out.new.text ≡ out.old.text ++ cell_field c }
+    ensures room { out.old.room ≤ out.new.room + CELL_FIELD }
 {
     let (letter, i) = parts_of(c);
     push_lettered(out, letter, i);
 }
 
 /// Appends a raw cell as a field.
-pub(super) fn push_raw(out: &mut Vec<u8>, r: Raw)
-    requires { 5 ≤ room out.old }
-    ensures text { out.new.items ≡ out.old.items ++ raw_field r }
-    ensures room { room out.old ≤ room out.new + 5 }
+pub(super) fn push_raw(out: &mut Text, r: Raw)
+    requires { CELL_FIELD ≤ out.old.room }
+    ensures text { out.new.text ≡ out.old.text ++ raw_field r }
+    ensures room { out.old.room ≤ out.new.room + CELL_FIELD }
 {
     push_lettered(out, b'r', r.0);
 }
 
-// A hexadecimal digit.
+/// A hexadecimal digit.
 #[inline(always)]
 fn digit(d: u8) -> u8
     requires { d ≤ 15 }
@@ -238,17 +82,17 @@ fn digit(d: u8) -> u8
 }
 
 /// Appends a raw word: `0x` and 16 hexadecimal digits.
-pub(super) fn push_word(out: &mut Vec<u8>, w: u64)
-    requires { 18 ≤ room out.old }
-    ensures text { out.new.items ≡ out.old.items ++ word_text w }
-    ensures room { room out.old ≤ room out.new + 18 }
+pub(super) fn push_word(out: &mut Text, w: u64)
+    requires { WORD ≤ out.old.room }
+    ensures text { out.new.text ≡ out.old.text ++ word_text w }
+    ensures room { out.old.room ≤ out.new.room + WORD }
 {
     let digits = digits_of(w);
     push(out, b"0x");
     push(out, &digits);
 }
 
-// The 16 hexadecimal digits of a word.
+/// The 16 hexadecimal digits of a word.
 fn digits_of(w: u64) -> [u8; 16]
     ensures { result ≡ hex_digits 16 w }
 {
@@ -264,50 +108,50 @@ fn digits_of(w: u64) -> [u8; 16]
 }
 
 /// Appends a raw word as a field.
-pub(super) fn push_word_field(out: &mut Vec<u8>, w: u64)
-    requires { 19 ≤ room out.old }
-    ensures text { out.new.items ≡ out.old.items ++ field (word_text w) }
-    ensures room { room out.old ≤ room out.new + 19 }
+pub(super) fn push_word_field(out: &mut Text, w: u64)
+    requires { WORD_FIELD ≤ out.old.room }
+    ensures text { out.new.text ≡ out.old.text ++ field (word_text w) }
+    ensures room { out.old.room ≤ out.new.room + WORD_FIELD }
 {
     push(out, b" ");
     push_word(out, w);
 }
 
 /// Appends the name of an object as a field.
-pub(super) fn push_name_field(out: &mut Vec<u8>, name: u32)
-    requires { 22 ≤ room out.old }
-    ensures text { out.new.items ≡ out.old.items ++ field (name_text name) }
-    ensures room { room out.old ≤ room out.new + 22 }
+pub(super) fn push_name_field(out: &mut Text, name: u32)
+    requires { NAME_FIELD ≤ out.old.room }
+    ensures text { out.new.text ≡ out.old.text ++ field (name_text name) }
+    ensures room { out.old.room ≤ out.new.room + NAME_FIELD }
 {
     push(out, b" #");
     push_number(out, name as u64);
 }
 
 /// Appends an index.
-pub(super) fn push_index(out: &mut Vec<u8>, index: u32)
-    requires { 21 ≤ room out.old }
-    ensures text { out.new.items ≡ out.old.items ++ index_text index }
-    ensures room { room out.old ≤ room out.new + 21 }
+pub(super) fn push_index(out: &mut Text, index: u32)
+    requires { INDEX ≤ out.old.room }
+    ensures text { out.new.text ≡ out.old.text ++ index_text index }
+    ensures room { out.old.room ≤ out.new.room + INDEX }
 {
     push(out, b"@");
     push_number(out, index as u64);
 }
 
 /// Appends an index as a field.
-pub(super) fn push_index_field(out: &mut Vec<u8>, index: u32)
-    requires { 22 ≤ room out.old }
-    ensures text { out.new.items ≡ out.old.items ++ field (index_text index) }
-    ensures room { room out.old ≤ room out.new + 22 }
+pub(super) fn push_index_field(out: &mut Text, index: u32)
+    requires { INDEX_FIELD ≤ out.old.room }
+    ensures text { out.new.text ≡ out.old.text ++ field (index_text index) }
+    ensures room { out.old.room ≤ out.new.room + INDEX_FIELD }
 {
     push(out, b" @");
     push_number(out, index as u64);
 }
 
 /// Appends a value as a field.
-pub(super) fn push_value(out: &mut Vec<u8>, v: Value)
-    requires { 22 ≤ room out.old }
-    ensures text { out.new.items ≡ out.old.items ++ field (value_text v) }
-    ensures room { room out.old ≤ room out.new + 22 }
+pub(super) fn push_value(out: &mut Text, v: Value)
+    requires { VALUE_FIELD ≤ out.old.room }
+    ensures text { out.new.text ≡ out.old.text ++ field (value_text v) }
+    ensures room { out.old.room ≤ out.new.room + VALUE_FIELD }
 {
     match v {
         Value::Fix(n) => push_signed_field(out, n),
@@ -318,11 +162,11 @@ pub(super) fn push_value(out: &mut Vec<u8>, v: Value)
 }
 
 /// Appends numbers, each as a field. Their room is reserved one by one.
-pub(super) fn push_numbers(out: &mut Vec<u8>, numbers: &[u32]) -> Result<(), AllocError>
-    ensures { OnOk result (out.new.items ≡ out.old.items ++ flat_map number_field numbers.now) }
+pub(super) fn push_numbers(out: &mut Text, numbers: &[u32]) -> Result<(), AllocError>
+    ensures { OnOk result (out.new.text ≡ out.old.text ++ flat_map number_field numbers.now) }
 {
     for n in numbers {
-        out.reserve(21)?;
+        out.reserve(NUMBER_FIELD)?;
         push_number_field(out, *n as u64);
     }
     Ok(())

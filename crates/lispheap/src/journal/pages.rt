@@ -3,17 +3,19 @@
 ghost use Rattle.std.specs.Prelude.{◌≡◌, ◌+◌, ◌≤◌, ◌++◌, OnOk, codes, flat_map, decimal};
 ghost use Rattle.heap_terms.specs.Text.{number_field, field, type_text, item_text, page_text, name_text, index_text};
 ghost use Rattle.heap_terms.specs.declared.answers.Item.{Item as PageItem};
-ghost use Rattle.lispheap.specs.Room.{room};
 
-use super::fields::{push, push_index, push_name_field, push_number, push_number_field};
+use super::buffer::Text;
+use super::fields::{push, push_index, push_name_field};
+use super::numbers::{push_number, push_number_field};
+use super::room::{GENERATION, ITEM, PAGE, TYPE};
 use heap_terms::{Item, PageType, PageView};
 use std::alloc::AllocError;
 
 /// Appends a page as the command `page` shows it.
-pub(super) fn push_page(out: &mut Vec<u8>, view: &PageView) -> Result<(), AllocError>
-    ensures { OnOk result (out.new.items ≡ out.old.items ++ page_text view.now) }
+pub(super) fn push_page(out: &mut Text, view: &PageView) -> Result<(), AllocError>
+    ensures { OnOk result (out.new.text ≡ out.old.text ++ page_text view.now) }
 {
-    out.reserve(102)?;
+    out.reserve(PAGE)?;
     match view {
         PageView::Free => push(out, b"free"),
         PageView::Small {
@@ -45,10 +47,10 @@ pub(super) fn push_page(out: &mut Vec<u8>, view: &PageView) -> Result<(), AllocE
 }
 
 /// Appends the type of a page.
-pub(super) fn push_type(out: &mut Vec<u8>, ty: PageType)
-    requires { 7 ≤ room out.old }
-    ensures text { out.new.items ≡ out.old.items ++ type_text ty }
-    ensures room { room out.old ≤ room out.new + 7 }
+pub(super) fn push_type(out: &mut Text, ty: PageType)
+    requires { TYPE ≤ out.old.room }
+    ensures text { out.new.text ≡ out.old.text ++ type_text ty }
+    ensures room { out.old.room ≤ out.new.room + TYPE }
 {
     match ty {
         PageType::Cons => push(out, b"cons"),
@@ -57,33 +59,33 @@ pub(super) fn push_type(out: &mut Vec<u8>, ty: PageType)
     }
 }
 
-// Appends the type and the generation of a page.
-fn push_generation(out: &mut Vec<u8>, ty: PageType, generation: u8)
-    requires { 29 ≤ room out.old }
-    ensures text { out.new.items ≡ out.old.items ++ (type_text ty ++ field (codes "g" ++ decimal generation)) }
-    ensures room { room out.old ≤ room out.new + 29 }
+/// Appends the type and the generation of a page.
+fn push_generation(out: &mut Text, ty: PageType, generation: u8)
+    requires { GENERATION ≤ out.old.room }
+    ensures text { out.new.text ≡ out.old.text ++ (type_text ty ++ field (codes "g" ++ decimal generation)) }
+    ensures room { out.old.room ≤ out.new.room + GENERATION }
 {
     push_type(out, ty);
     push(out, b" g");
     push_number(out, generation as u64);
 }
 
-// Appends the items of a page. Their room is reserved one by one.
-fn push_items(out: &mut Vec<u8>, items: &[Item]) -> Result<(), AllocError>
-    ensures { OnOk result (out.new.items
-        ≡ out.old.items ++ flat_map (λ (item : PageItem). field (item_text item.name item.index item.count)) items.now) }
+/// Appends the items of a page. Their room is reserved one by one.
+fn push_items(out: &mut Text, items: &[Item]) -> Result<(), AllocError>
+    ensures { OnOk result (out.new.text
+        ≡ out.old.text ++ flat_map (λ (item : PageItem). field (item_text item.name item.index item.count)) items.now) }
 {
     for item in items {
-        out.reserve(43)?;
+        out.reserve(ITEM)?;
         push_item(out, item);
     }
     Ok(())
 }
 
-// Appends an item of a page.
-fn push_item(out: &mut Vec<u8>, item: &Item)
-    requires { 43 ≤ room out.old }
-    ensures { out.new.items ≡ out.old.items ++ field (item_text item.now.name item.now.index item.now.count) }
+/// Appends an item of a page.
+fn push_item(out: &mut Text, item: &Item)
+    requires { ITEM ≤ out.old.room }
+    ensures { out.new.text ≡ out.old.text ++ field (item_text item.now.name item.now.index item.now.count) }
 {
     match item.name {
         Some(name) => push_name_field(out, name),

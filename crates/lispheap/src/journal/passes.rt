@@ -5,15 +5,17 @@ ghost use Rattle.heap_terms.specs.Text.{number_field, field, line, name_text, in
 ghost use Rattle.heap_terms.specs.declared.events.Cull.{Cull as CullRecord};
 ghost use Rattle.heap_terms.specs.declared.events.PinAt.{PinAt as PinRecord};
 ghost use Rattle.heap_terms.specs.declared.events.Placing.{Placing as MoveRecord};
-ghost use Rattle.lispheap.specs.Room.{room};
 
-use super::fields::{push, push_index_field, push_name_field, push_number_field, push_value};
+use super::buffer::Text;
+use super::fields::{push, push_index_field, push_name_field, push_value};
+use super::numbers::push_number_field;
+use super::room::{BREAK_LINE, CULL_LINE, MOVE_LINE, NUMBER_FIELD, OBJECT, PIN_LINE};
 use heap_terms::{Cull, PassRecord, PinAt, Placing};
 use std::alloc::AllocError;
 
 /// Appends the lines of passes.
-pub(super) fn push_passes(out: &mut Vec<u8>, passes: &[PassRecord]) -> Result<(), AllocError>
-    ensures { OnOk result (out.new.items ≡ out.old.items ++ flat_map pass_text passes.now) }
+pub(super) fn push_passes(out: &mut Text, passes: &[PassRecord]) -> Result<(), AllocError>
+    ensures { OnOk result (out.new.text ≡ out.old.text ++ flat_map pass_text passes.now) }
 {
     for pass in passes {
         push_pass(out, pass)?;
@@ -21,9 +23,9 @@ pub(super) fn push_passes(out: &mut Vec<u8>, passes: &[PassRecord]) -> Result<()
     Ok(())
 }
 
-// Appends the lines of a pass.
-fn push_pass(out: &mut Vec<u8>, pass: &PassRecord) -> Result<(), AllocError>
-    ensures { OnOk result (out.new.items ≡ out.old.items ++ pass_text pass.now) }
+/// Appends the lines of a pass.
+fn push_pass(out: &mut Text, pass: &PassRecord) -> Result<(), AllocError>
+    ensures { OnOk result (out.new.text ≡ out.old.text ++ pass_text pass.now) }
 {
     push_two(out, b"pass", pass.generation as u32, pass.target as u32)?;
     push_moves(out, pass.moves.as_slice())?;
@@ -35,22 +37,22 @@ fn push_pass(out: &mut Vec<u8>, pass: &PassRecord) -> Result<(), AllocError>
     push_two(out, b"swept", pass.dead, pass.kept)
 }
 
-// Appends a line of a word and two numbers.
-fn push_two(out: &mut Vec<u8>, word: &[u8], a: u32, b: u32) -> Result<(), AllocError>
-    ensures { OnOk result (out.new.items ≡ out.old.items ++ line (word.now ++ number_field a ++ number_field b)) }
+/// Appends a line of a word and two numbers.
+fn push_two(out: &mut Text, word: &[u8], a: u32, b: u32) -> Result<(), AllocError>
+    ensures { OnOk result (out.new.text ≡ out.old.text ++ line (word.now ++ number_field a ++ number_field b)) }
 {
-    out.extend_from_slice(word)?;
-    out.reserve(43)?;
+    out.append(word)?;
+    out.reserve(2 * NUMBER_FIELD + 1)?;
     push_number_field(out, a as u64);
     push_number_field(out, b as u64);
     push(out, b"\n");
     Ok(())
 }
 
-// Appends a line of a word and a number for each number.
-fn push_each(out: &mut Vec<u8>, word: &[u8], numbers: &[u32]) -> Result<(), AllocError>
-    ensures { OnOk result (out.new.items
-        ≡ out.old.items ++ flat_map (λ (n : ℕ). line (word.now ++ number_field n)) numbers.now) }
+/// Appends a line of a word and a number for each number.
+fn push_each(out: &mut Text, word: &[u8], numbers: &[u32]) -> Result<(), AllocError>
+    ensures { OnOk result (out.new.text
+        ≡ out.old.text ++ flat_map (λ (n : ℕ). line (word.now ++ number_field n)) numbers.now) }
 {
     for n in numbers {
         push_one(out, word, *n)?;
@@ -58,33 +60,33 @@ fn push_each(out: &mut Vec<u8>, word: &[u8], numbers: &[u32]) -> Result<(), Allo
     Ok(())
 }
 
-// Appends a line of a word and a number.
-fn push_one(out: &mut Vec<u8>, word: &[u8], n: u32) -> Result<(), AllocError>
-    ensures { OnOk result (out.new.items ≡ out.old.items ++ line (word.now ++ number_field n)) }
+/// Appends a line of a word and a number.
+fn push_one(out: &mut Text, word: &[u8], n: u32) -> Result<(), AllocError>
+    ensures { OnOk result (out.new.text ≡ out.old.text ++ line (word.now ++ number_field n)) }
 {
-    out.extend_from_slice(word)?;
-    out.reserve(22)?;
+    out.append(word)?;
+    out.reserve(NUMBER_FIELD + 1)?;
     push_number_field(out, n as u64);
     push(out, b"\n");
     Ok(())
 }
 
-// Appends the lines of the moves and the stays.
-fn push_moves(out: &mut Vec<u8>, moves: &[Placing]) -> Result<(), AllocError>
-    ensures { OnOk result (out.new.items
-        ≡ out.old.items ++ flat_map (λ (m : MoveRecord). line (placing_text m.name m.old m.new)) moves.now) }
+/// Appends the lines of the moves and the stays.
+fn push_moves(out: &mut Text, moves: &[Placing]) -> Result<(), AllocError>
+    ensures { OnOk result (out.new.text
+        ≡ out.old.text ++ flat_map (λ (m : MoveRecord). line (placing_text m.name m.old m.new)) moves.now) }
 {
     for placing in moves {
-        out.reserve(71)?;
+        out.reserve(MOVE_LINE)?;
         push_move(out, placing);
     }
     Ok(())
 }
 
-// Appends the line of a move or a stay.
-fn push_move(out: &mut Vec<u8>, m: &Placing)
-    requires { 71 ≤ room out.old }
-    ensures { out.new.items ≡ out.old.items ++ line (placing_text m.now.name m.now.old m.now.new) }
+/// Appends the line of a move or a stay.
+fn push_move(out: &mut Text, m: &Placing)
+    requires { MOVE_LINE ≤ out.old.room }
+    ensures { out.new.text ≡ out.old.text ++ line (placing_text m.now.name m.now.old m.now.new) }
 {
     match m.new {
         Some(new) => {
@@ -101,54 +103,54 @@ fn push_move(out: &mut Vec<u8>, m: &Placing)
     }
 }
 
-// Appends a name and an index, each as a field.
-fn push_object(out: &mut Vec<u8>, name: u32, index: u32)
-    requires { 44 ≤ room out.old }
-    ensures text { out.new.items ≡ out.old.items ++ (field (name_text name) ++ field (index_text index)) }
-    ensures room { room out.old ≤ room out.new + 44 }
+/// Appends a name and an index, each as a field.
+fn push_object(out: &mut Text, name: u32, index: u32)
+    requires { OBJECT ≤ out.old.room }
+    ensures text { out.new.text ≡ out.old.text ++ (field (name_text name) ++ field (index_text index)) }
+    ensures room { out.old.room ≤ out.new.room + OBJECT }
 {
     push_name_field(out, name);
     push_index_field(out, index);
 }
 
-// Appends the lines of the pinned objects.
-fn push_pins(out: &mut Vec<u8>, pins: &[PinAt]) -> Result<(), AllocError>
-    ensures { OnOk result (out.new.items ≡ out.old.items
+/// Appends the lines of the pinned objects.
+fn push_pins(out: &mut Text, pins: &[PinAt]) -> Result<(), AllocError>
+    ensures { OnOk result (out.new.text ≡ out.old.text
         ++ flat_map (λ (q : PinRecord). line (codes "pin" ++ field (name_text q.name) ++ field (index_text q.index))) pins.now) }
 {
     for pin in pins {
-        out.reserve(48)?;
+        out.reserve(PIN_LINE)?;
         push_pin(out, pin.name, pin.index);
     }
     Ok(())
 }
 
-// Appends the line of a pinned object.
-fn push_pin(out: &mut Vec<u8>, name: u32, index: u32)
-    requires { 48 ≤ room out.old }
-    ensures { out.new.items ≡ out.old.items ++ line (codes "pin" ++ field (name_text name) ++ field (index_text index)) }
+/// Appends the line of a pinned object.
+fn push_pin(out: &mut Text, name: u32, index: u32)
+    requires { PIN_LINE ≤ out.old.room }
+    ensures { out.new.text ≡ out.old.text ++ line (codes "pin" ++ field (name_text name) ++ field (index_text index)) }
 {
     push(out, b"pin");
     push_object(out, name, index);
     push(out, b"\n");
 }
 
-// Appends the lines of the culled pairs.
-fn push_culls(out: &mut Vec<u8>, culls: &[Cull]) -> Result<(), AllocError>
-    ensures { OnOk result (out.new.items ≡ out.old.items ++ flat_map (λ (k : CullRecord).
+/// Appends the lines of the culled pairs.
+fn push_culls(out: &mut Text, culls: &[Cull]) -> Result<(), AllocError>
+    ensures { OnOk result (out.new.text ≡ out.old.text ++ flat_map (λ (k : CullRecord).
         line (codes "cull" ++ field (name_text k.table) ++ field (value_text k.key) ++ field (value_text k.value))) culls.now) }
 {
     for cull in culls {
-        out.reserve(71)?;
+        out.reserve(CULL_LINE)?;
         push_cull(out, cull);
     }
     Ok(())
 }
 
-// Appends the line of a culled pair.
-fn push_cull(out: &mut Vec<u8>, k: &Cull)
-    requires { 71 ≤ room out.old }
-    ensures { out.new.items ≡ out.old.items
+/// Appends the line of a culled pair.
+fn push_cull(out: &mut Text, k: &Cull)
+    requires { CULL_LINE ≤ out.old.room }
+    ensures { out.new.text ≡ out.old.text
         ++ line (codes "cull" ++ field (name_text k.now.table) ++ field (value_text k.now.key) ++ field (value_text k.now.value)) }
 {
     push(out, b"cull");
@@ -158,22 +160,22 @@ fn push_cull(out: &mut Vec<u8>, k: &Cull)
     push(out, b"\n");
 }
 
-// Appends the lines of the broken weak pointers.
-fn push_breaks(out: &mut Vec<u8>, breaks: &[u32]) -> Result<(), AllocError>
-    ensures { OnOk result (out.new.items
-        ≡ out.old.items ++ flat_map (λ name. line (codes "break" ++ field (name_text name))) breaks.now) }
+/// Appends the lines of the broken weak pointers.
+fn push_breaks(out: &mut Text, breaks: &[u32]) -> Result<(), AllocError>
+    ensures { OnOk result (out.new.text
+        ≡ out.old.text ++ flat_map (λ name. line (codes "break" ++ field (name_text name))) breaks.now) }
 {
     for name in breaks {
-        out.reserve(28)?;
+        out.reserve(BREAK_LINE)?;
         push_break(out, *name);
     }
     Ok(())
 }
 
-// Appends the line of a broken weak pointer.
-fn push_break(out: &mut Vec<u8>, name: u32)
-    requires { 28 ≤ room out.old }
-    ensures { out.new.items ≡ out.old.items ++ line (codes "break" ++ field (name_text name)) }
+/// Appends the line of a broken weak pointer.
+fn push_break(out: &mut Text, name: u32)
+    requires { BREAK_LINE ≤ out.old.room }
+    ensures { out.new.text ≡ out.old.text ++ line (codes "break" ++ field (name_text name)) }
 {
     push(out, b"break");
     push_name_field(out, name);

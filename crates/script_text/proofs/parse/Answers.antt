@@ -1,7 +1,7 @@
 use Rattle.std.proofs.Common.{◌≡◌, refl, [], length, sym, ap, ◌∙◌, arith}
 use Rattle.std.specs.Str.Lines.{lines}
 use Rattle.std.proofs.lemmas.Bool.{false≢true}
-use Rattle.heap_terms.specs.Reading.{read_script}
+use Rattle.heap_terms.specs.ScriptReading.{read_script}
 use Rattle.script_text.specs.Left.{lines_after}
 use Rattle.script_text.proofs.Lines.{length-lines}
 use Rattle.script_text.proofs.Validity.{read_valid}

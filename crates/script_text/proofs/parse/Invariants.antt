@@ -1,6 +1,6 @@
 use Rattle.std.proofs.Common.{◌≡◌, ◌+◌, ◌≤◌, length}
 use Rattle.std.specs.Str.Lines.{lines}
-use Rattle.heap_terms.specs.Reading.{read_lines, read_script}
+use Rattle.heap_terms.specs.ScriptReading.{read_lines, read_script}
 use Rattle.script_text.proofs.parse.Given as goal
 
 abbrev pub invariant-loop-left : goal.invariant-loop-left

@@ -6,8 +6,8 @@ abbrev pub invariant-loop-bytes : goal.invariant-loop-bytes
 invariant-loop-bytes g l = record {
   room : 0 < length l.piece;
   within : vec_len l.bytes ≤ l.limit;
-  gave : Gave (g.S.Source.contents l.initial.source) (g.S.Source.contents l.source) l.bytes.items;
-  counted : g.S.Source.faults l.initial.source ≤ g.S.Source.faults l.source;
+  gave : Gave (g.S.Source.state l.initial.source).contents (g.S.Source.state l.source).contents l.bytes.items;
+  counted : (g.S.Source.state l.initial.source).faults ≤ (g.S.Source.state l.source).faults;
 }
 
 abbrev pub decreases-loop-bytes : goal.decreases-loop-bytes

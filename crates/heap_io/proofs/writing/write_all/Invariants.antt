@@ -5,8 +5,8 @@ use Rattle.heap_io.proofs.writing.write_all.Given as goal
 abbrev pub invariant-loop-written : goal.invariant-loop-written
 invariant-loop-written g l = record {
   within : l.written ≤ length l.bytes;
-  appended : Grew (g.K.Sink.contents l.initial.sink) (g.K.Sink.contents l.sink) (take l.written l.bytes);
-  counted : g.K.Sink.faults l.initial.sink ≤ g.K.Sink.faults l.sink;
+  appended : Grew (g.K.Sink.state l.initial.sink).contents (g.K.Sink.state l.sink).contents (take l.written l.bytes);
+  counted : (g.K.Sink.state l.initial.sink).faults ≤ (g.K.Sink.state l.sink).faults;
   untouched : l.written ≡ 0 → l.sink ≡ l.initial.sink;
 }
 

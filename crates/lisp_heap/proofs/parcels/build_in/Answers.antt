@@ -1,6 +1,6 @@
 -- An object that fits into a region begins far enough below its end.
 use Rattle.std.proofs.Common.{arith}
-use Rattle.heap_terms.proofs.Staying.{size_least}
+use Rattle.heap_laws.proofs.Allocating.{size_least}
 use Rattle.lisp_heap.proofs.parcels.build_in.Goals as goal
 
 pub build-requires-clause-fits : goal.build-requires-clause-fits

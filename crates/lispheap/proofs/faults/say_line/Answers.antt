@@ -5,8 +5,8 @@ pub returns-in_err-put_text-clause-stopped : goal.returns-in_err-put_text-clause
 returns-in_err-put_text-clause-stopped g c = at_err c.from_residual.result (first_stopped _ _ _ c.in_err-put_text.ensures.stopped)
 
 pub returns-clause-said : goal.returns-clause-said
-returns-clause-said g c = ok_from c.say_number.result (λ later. both_said _ _ _ _ _ _ _ _ c.in_ok-put_text.ensures.said later) c.say_number.ensures.said
+returns-clause-said g c = ok_from c.say_number.result (λ later. both_said _ _ _ _ _ c.in_ok-put_text.ensures.said later) c.say_number.ensures.said
 
 pub returns-clause-stopped : goal.returns-clause-stopped
 returns-clause-stopped g c =
-    err_from c.say_number.result (λ later. second_stopped _ _ _ _ _ _ _ _ c.put_text.ensures.counted c.say_number.ensures.counted c.in_ok-put_text.ensures.said later) c.say_number.ensures.stopped
+    err_from c.say_number.result (λ later. second_stopped _ _ _ _ _ c.put_text.ensures.counted c.say_number.ensures.counted c.in_ok-put_text.ensures.said later) c.say_number.ensures.stopped

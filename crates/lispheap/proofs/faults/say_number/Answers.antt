@@ -11,9 +11,9 @@ returns-in_err-put_text-clause-stopped g c =
 pub returns-clause-said : goal.returns-clause-said
 returns-clause-said g c =
     let digits : decimal c.args.n ≡ c.as_bytes.result.now = sym (c.as_bytes.ensures.value ∙ c.format.ensures.text) in
-    rw digits (ok_from c.say_why.result (λ later. both_said _ _ _ _ _ _ _ _ c.in_ok-put_text.ensures.said later) c.say_why.ensures.said)
+    rw digits (ok_from c.say_why.result (λ later. both_said _ _ _ _ _ c.in_ok-put_text.ensures.said later) c.say_why.ensures.said)
 
 pub returns-clause-stopped : goal.returns-clause-stopped
 returns-clause-stopped g c =
     let digits : decimal c.args.n ≡ c.as_bytes.result.now = sym (c.as_bytes.ensures.value ∙ c.format.ensures.text) in
-    rw digits (err_from c.say_why.result (λ later. second_stopped _ _ _ _ _ _ _ _ c.put_text.ensures.counted c.say_why.ensures.counted c.in_ok-put_text.ensures.said later) c.say_why.ensures.stopped)
+    rw digits (err_from c.say_why.result (λ later. second_stopped _ _ _ _ _ c.put_text.ensures.counted c.say_why.ensures.counted c.in_ok-put_text.ensures.said later) c.say_why.ensures.stopped)

@@ -4,4 +4,4 @@ use Rattle.heap_terms.specs.Text.{event_text}
 use Rattle.lispheap.proofs.journal.push_events.Given as goal
 
 abbrev pub invariant-loop-event : goal.invariant-loop-event
-invariant-loop-event l = l.out.items ≡ l.initial.out.items ++ flat_map event_text (take l.event-index l.events)
+invariant-loop-event l = l.out.text ≡ l.initial.out.text ++ flat_map event_text (take l.event-index l.events)

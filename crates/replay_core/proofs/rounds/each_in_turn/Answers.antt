@@ -8,5 +8,5 @@ pub loop-t-preserved : goal.loop-t-preserved
 loop-t-preserved c =
     let t = c.loop-t.t in
     let start = c.args.machine.now in
-    subst (λ (ts : List ℕ). Turned ts start c.step.new.self) (sym (range-more t))
-    (Turned-push (range_with_len 0 t) t start c.loop-t.machine c.step.new.self c.in_ok-_stepped._stepped c.loop-t.invariant c.in_ok-_stepped.ensures.ok)
+    subst (λ (ts : List ℕ). Turned ts start c.turn.new.self) (sym (range-more t))
+    (Turned-push (range_with_len 0 t) t start c.loop-t.machine c.turn.new.self c.in_ok-_happened._happened c.loop-t.invariant c.in_ok-_happened.ensures.ok)

@@ -23,8 +23,8 @@ loop-i-preserved c =
     let found : t ≡ get_or turns i t = c.at-t.ensures ∙ ap (λ (ts : List ℕ). get_or ts i t) now in
     let more : take (i + 1) turns ≡ take i turns ++ t ∷ [] =
     take_more turns i t inside ∙ ap (λ (u : ℕ). take i turns ++ u ∷ []) (sym found) in
-    subst (λ (ts : List ℕ). Turned ts start c.step.new.self) (sym more)
-    (Turned-push (take i turns) t start c.loop-i.machine c.step.new.self c.in_ok-_stepped._stepped c.loop-i.invariant c.in_ok-_stepped.ensures.ok)
+    subst (λ (ts : List ℕ). Turned ts start c.turn.new.self) (sym more)
+    (Turned-push (take i turns) t start c.loop-i.machine c.turn.new.self c.in_ok-_happened._happened c.loop-i.invariant c.in_ok-_happened.ensures.ok)
 
 pub returns-then-all_have_ended : goal.returns-then-all_have_ended
 returns-then-all_have_ended c =

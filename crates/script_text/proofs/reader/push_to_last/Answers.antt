@@ -1,7 +1,7 @@
 use Rattle.std.proofs.Common.{◌≡◌, ℕ, suc, zero, ◌+◌, ◌-◌, List, [], ◌∷◌, ◌++◌, length, get_or, set, ap, arith}
 use Rattle.std.proofs.lemmas.Result.{on_ok_weaker}
 use Rattle.heap_terms.specs.declared.commands.Command.{Command}
-use Rattle.heap_terms.specs.Reading.{onto_last}
+use Rattle.heap_terms.specs.ScriptReading.{onto_last}
 use Rattle.script_text.proofs.reader.push_to_last.Goals as goal
 
 onto_last-set : (ts : List (List Command)) (n : ℕ) (cs : List Command) (c : Command) → n + 1 ≡ length ts → cs ≡ get_or ts n cs → set ts n (cs ++ c ∷ []) ≡ onto_last ts c

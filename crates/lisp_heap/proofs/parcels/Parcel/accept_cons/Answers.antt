@@ -1,7 +1,7 @@
 -- The cons that is built takes two words, and the next one begins after it.
 use Rattle.std.proofs.Common.{arith, ap, ◌∙◌}
 use Rattle.lisp_heap.specs.ParcelSound.{parcel_view}
-use Rattle.lisp_heap.specs.Parcels.{with_accepted}
+use Rattle.lisp_heap.specs.ParcelView.{with_accepted}
 use Rattle.lisp_heap.proofs.Leasing.{no_region, two_built, accepted}
 use Rattle.lisp_heap.proofs.parcels.Parcel.accept_cons.Goals as goal
 use Rattle.lisp_heap.proofs.parcels.Parcel.accept_cons.Goals.{in-Some, in_default}

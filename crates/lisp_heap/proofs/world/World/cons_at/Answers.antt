@@ -3,9 +3,9 @@ use Rattle.std.proofs.Common.{◌≡◌, ℕ, subst, sym, refl, Option, None}
 use Rattle.heap_terms.specs.declared.cells.Value.{Value}
 use Rattle.heap_terms.specs.Simple.{fields_at}
 use Rattle.heap_terms.specs.WellFormed.{IsLiving}
-use Rattle.heap_terms.specs.Words.{word_of}
+use Rattle.heap_terms.specs.Spelling.{word_of}
 use Rattle.lisp_words.specs.declared.pointers.Lowtag.TheVariants as lowtags
-use Rattle.lisp_heap.specs.Reading.{IsCons, IsConsAt}
+use Rattle.lisp_heap.specs.LivingWords.{RefersToCons, IsConsAt}
 use Rattle.lisp_heap.specs.View.{View, heap_of}
 use Rattle.lisp_heap.proofs.WordReading.{found_at, as_cons, no_fields, listed_once}
 use Rattle.lisp_heap.proofs.world.World.cons_at.Goals as goal
@@ -19,7 +19,7 @@ returns-in_err-index c =
 
 pub returns-in-List : goal.returns-in-List
 returns-in-List c =
-    subst (λ (w : View). (v : Value) → IsLiving (heap_of w).objects v → c.args.word ≡ word_of (heap_of w).objects v → IsCons (heap_of w).objects v c.in_ok-index.index) c.self.view_is
+    subst (λ (w : View). (v : Value) → IsLiving (heap_of w).objects v → c.args.word ≡ word_of (heap_of w).objects v → RefersToCons (heap_of w).objects v c.in_ok-index.index) c.self.view_is
     (λ v living is. as_cons c.self.inside v c.in_ok-index.index c.in_ok-index.lowtag
     (found_at c.self.inside c.self.invariant v c.args.word c.in_ok-index.index c.in_ok-index.lowtag living is c.in_ok-index.ensures.tagged))
 

@@ -5,7 +5,7 @@ use Rattle.heap_terms.specs.declared.pages.Next.TheVariants as nexts
 use Rattle.heap_terms.specs.Heap.{NamedHeap}
 use Rattle.heap_terms.specs.Histories.{after, next}
 use Rattle.lisp_heap.specs.Agreement.{Agrees}
-use Rattle.lisp_heap.specs.Parcels.{empty_parcel}
+use Rattle.lisp_heap.specs.ParcelView.{empty_parcel}
 use Rattle.lisp_heap.specs.Sound.{view_of, parts_of, IsSound}
 use Rattle.lisp_heap.specs.Standing.{Holds}
 use Rattle.lisp_heap.specs.View.{View, next_of}
@@ -22,90 +22,62 @@ thread_there s h t lt = omega (arith, (well_formed s h).threads_length)
 ends_here : (s : Inside) (w : View) (t : ℕ) → view_of s ≡ w → next_of w t ≡ nexts.End → next s.program (heap s) t ≡ nexts.End
 ends_here s w t e h = subst (λ (v : View). next_of v t ≡ nexts.End) (sym e) h
 
-pub clear-requires-clause-stack : goal.clear-requires-clause-stack
-clear-requires-clause-stack c =
-    (cells_room c.self.inside c.args.t c.self.invariant (thread_in c.self.inside c.args.self.now c.self.view_is c.args.t c.requires.thread)).0
+pub clear-requires : goal.clear-requires
+clear-requires c = cells_room c.self.inside c.args.t c.self.invariant (thread_in c.self.inside c.args.self.now c.self.view_is c.args.t c.requires.thread)
 
-pub clear-requires-clause-exact : goal.clear-requires-clause-exact
-clear-requires-clause-exact c =
-    (cells_room c.self.inside c.args.t c.self.invariant (thread_in c.self.inside c.args.self.now c.self.view_is c.args.t c.requires.thread)).1
-
-pub end_state-requires : goal.end_state-requires
-end_state-requires c =
+pub end-requires : goal.end-requires
+end-requires c =
     omega (arith, thread_in c.self.inside c.args.self.now c.self.view_is c.args.t c.requires.thread, states_length c.self.inside c.self.invariant)
 
-pub invariant_of-self-2 : goal.invariant_of-self-2
-invariant_of-self-2 c =
+-- the fields after the call
+abbrev made : goal.After-end → Inside
+made c = record {
+  alloc = c.self.inside.alloc;
+  program = c.self.inside.program;
+  space = c.self.inside.space;
+  pages = c.self.inside.pages;
+  labels = c.self.inside.labels;
+  cells = c.clear.new.self;
+  states = c.end.new.self;
+  commits = c.self.inside.commits;
+  history = c.push.new.self;
+}
+
+sound_made : (c : goal.After-end) → IsSound (made c)
+sound_made c =
     let s = c.self.inside in
     let lt = thread_in s c.args.self.now c.self.view_is c.args.t c.requires.thread in
-    let now : Inside = record {
-      program = s.program;
-      space = s.space;
-      pages = s.pages;
-      labels = s.labels;
-      cells = c.clear.new.self;
-      states = c.end_state.new.states;
-      commits = s.commits;
-      history = c.push.new.self;
-    } in
     let held : Holds (after s.program (heap s) (Ended c.args.t)) (record {
       words = s.space;
       pages = s.pages;
       labels = s.labels;
       cells = c.clear.new.self;
-      states = c.end_state.new.states;
+      states = c.end.new.self;
       commits = s.commits;
     }) =
-    rw (c.clear.ensures, c.end_state.ensures)
+    rw (c.clear.ensures, c.end.ensures)
     (after_end_holds s.program (heap s) (parts_of s) c.args.t (thread_there s c.self.invariant c.args.t lt) c.self.invariant.holds) in
-    sound_after s now (Ended c.args.t) c.self.invariant refl c.in_ok-push.ensures.items
+    sound_after s (made c) (Ended c.args.t) c.self.invariant refl c.in_ok-push.ensures.items
     (end_next s.program (heap s) c.args.t (ends_here s c.args.self.now c.args.t c.self.view_is c.requires.ends)) held
+
+pub invariant_of-self-2 : goal.invariant_of-self-2
+invariant_of-self-2 c = sound_made c
 
 pub returns-clause-ok : goal.returns-clause-ok
 returns-clause-ok c =
     let s = c.self.inside in
-    let now : Inside = record {
-      program = s.program;
-      space = s.space;
-      pages = s.pages;
-      labels = s.labels;
-      cells = c.clear.new.self;
-      states = c.end_state.new.states;
-      commits = s.commits;
-      history = c.push.new.self;
-    } in
-    happens_after s now c.args.self.now c.args.t (Ended c.args.t) c.self.view_is refl c.in_ok-push.ensures.items refl
-    (end_next s.program (heap s) c.args.t (ends_here s c.args.self.now c.args.t c.self.view_is c.requires.ends))
+    happens_after s (made c) c.args.self.now c.args.t (Ended c.args.t) c.self.view_is refl c.in_ok-push.ensures.items refl
+    (end_next s.program (heap s) c.args.t (ends_here s c.args.self.now c.args.t c.self.view_is c.requires.ends)) (sound_made c)
 
 pub returns-clause-agrees : goal.returns-clause-agrees
 returns-clause-agrees c =
     let s = c.self.inside in
     let lt = thread_in s c.args.self.now c.self.view_is c.args.t c.requires.thread in
-    let now : Inside = record {
-      program = s.program;
-      space = s.space;
-      pages = s.pages;
-      labels = s.labels;
-      cells = c.clear.new.self;
-      states = c.end_state.new.states;
-      commits = s.commits;
-      history = c.push.new.self;
-    } in
-    subst (λ (a : NamedHeap). Agrees a (empty_parcel c.args.t)) (sym (heap_after s now (Ended c.args.t) refl c.in_ok-push.ensures.items))
+    subst (λ (a : NamedHeap). Agrees a (empty_parcel c.args.t)) (sym (heap_after s (made c) (Ended c.args.t) refl c.in_ok-push.ensures.items))
     (end_empty s.program (heap s) c.args.t (thread_there s c.self.invariant c.args.t lt))
 
 pub returns-clause-others : goal.returns-clause-others
 returns-clause-others c = λ q apart. (
     let s = c.self.inside in
-    let now : Inside = record {
-      program = s.program;
-      space = s.space;
-      pages = s.pages;
-      labels = s.labels;
-      cells = c.clear.new.self;
-      states = c.end_state.new.states;
-      commits = s.commits;
-      history = c.push.new.self;
-    } in
-    agrees_after s now c.args.self.now (Ended c.args.t) q q c.self.view_is refl c.in_ok-push.ensures.items
+    agrees_after s (made c) c.args.self.now (Ended c.args.t) q q c.self.view_is refl c.in_ok-push.ensures.items
     (end_others s.program (heap s) c.args.t q apart))

@@ -3,9 +3,9 @@ use Rattle.std.proofs.Common.{◌≡◌, ℕ, ap, ◌∙◌, to_z, of_z, w64}
 use Rattle.std.proofs.lemmas.Int.{to_z-of_z}
 use Rattle.heap_terms.specs.Layout.{fixnum_word}
 use Rattle.heap_terms.specs.Valid.{IsFixnum}
-use Rattle.heap_terms.proofs.Places.{IfSome-at}
+use Rattle.heap_laws.proofs.AtPlaces.{IfSome-at}
 use Rattle.lisp_heap.specs.View.{heap_of}
-use Rattle.lisp_heap.proofs.Outcomes.{fixed_is}
+use Rattle.lisp_heap.proofs.Plans.{fixed_is}
 use Rattle.lisp_heap.proofs.world.World.fixed.Goals as goal
 
 pub returns : goal.returns

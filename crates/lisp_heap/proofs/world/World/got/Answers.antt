@@ -5,12 +5,12 @@ use Rattle.heap_terms.specs.declared.cells.Value.{Value}
 use Rattle.heap_terms.specs.declared.commands.Command.TheVariants as commands
 use Rattle.heap_terms.specs.Cells.{cell_value}
 use Rattle.heap_terms.specs.WellFormed.{IsLiving}
-use Rattle.heap_terms.specs.Words.{word_of}
-use Rattle.lisp_heap.specs.Outcome.{IsOutcome}
+use Rattle.heap_terms.specs.Spelling.{word_of}
+use Rattle.lisp_heap.specs.Plan.{IsPlan}
 use Rattle.lisp_heap.specs.View.{View, heap_of}
-use Rattle.lisp_heap.specs.declared.outcome.Outcome.{Outcome}
+use Rattle.lisp_heap.specs.declared.plan.Plan.{Plan}
 use Rattle.lisp_heap.specs.declared.world.World.TheInside.{Inside}
-use Rattle.lisp_heap.proofs.Outcomes.{got_none, got_out, got_is, field_of}
+use Rattle.lisp_heap.proofs.Plans.{got_none, got_out, got_is, field_of}
 use Rattle.lisp_heap.proofs.WordReading.{cell_lives, cons_words_of, ConsWords}
 use Rattle.lisp_heap.proofs.world.World.got.Goals as goal
 
@@ -27,14 +27,14 @@ pub returns-in_default : goal.returns-in_default
 returns-in_default c =
     let living = cell_lives c.self.inside c.args.self.now c.self.invariant c.self.view_is c.args.t c.args.c c.requires.thread in
     let none = c.in_default.ensures (cell_value (heap_of c.args.self.now) c.args.t c.args.c) living c.cell-of.ensures in
-    subst (λ (o : Outcome). IsOutcome (heap_of c.args.self.now) c.args.t (commands.Get c.args.d c.args.c c.args.i) o.answer o.change) (sym c.refused.ensures)
+    subst (λ (o : Plan). IsPlan (heap_of c.args.self.now) c.args.t (commands.Get c.args.d c.args.c c.args.i) o.answer o.change) (sym c.refused.ensures)
     (got_none (heap_of c.args.self.now) c.args.t c.args.d c.args.c c.args.i none)
 
 pub returns-then-i-ge2 : goal.returns-then-i-ge2
 returns-then-i-ge2 c =
     let living = cell_lives c.self.inside c.args.self.now c.self.invariant c.self.view_is c.args.t c.args.c c.requires.thread in
     let k = c.in-Some.ensures (cell_value (heap_of c.args.self.now) c.args.t c.args.c) living c.cell-of.ensures in
-    subst (λ (o : Outcome). IsOutcome (heap_of c.args.self.now) c.args.t (commands.Get c.args.d c.args.c c.args.i) o.answer o.change) (sym c.refused-then-i-ge2.ensures)
+    subst (λ (o : Plan). IsPlan (heap_of c.args.self.now) c.args.t (commands.Get c.args.d c.args.c c.args.i) o.answer o.change) (sym c.refused-then-i-ge2.ensures)
     (got_out (heap_of c.args.self.now) c.args.t c.args.d c.args.c c.args.i c.in-Some.index k c.if-i-ge2.true)
 
 pub overflow_add-index : goal.overflow_add-index

@@ -2,7 +2,7 @@
 use Rattle.std.proofs.Common.{subst}
 use Rattle.heap_terms.specs.Regions.{HasNoRun}
 use Rattle.lisp_heap.specs.View.{View, heap_of}
-use Rattle.heap_terms.specs.Regions.{IsRun}
+use Rattle.heap_terms.specs.Regions.{IsFreeRun}
 use Rattle.heap_terms.specs.declared.pages.Entry.{Entry}
 use Rattle.std.proofs.Common.{List}
 use Rattle.lisp_heap.proofs.Lending.{lends_opened, lends_exhausted}
@@ -21,4 +21,4 @@ returns-in_ok-refuse-in-None-clause-lent c =
 pub returns-in_ok-region-in-Some-clause-lent : goal.returns-in_ok-region-in-Some-clause-lent
 returns-in_ok-region-in-Some-clause-lent c =
     lends_opened c.self.inside c.args.self.now c.self.invariant c.self.view_is c.args.parcel.now.owner c.in-Some.first c.requires.thread c.requires.opens
-    (subst (λ (ps : List Entry). IsRun ps c.in-Some.first 1) c.self.invariant.holds.pages c.in-Some.ensures.found.run)
+    (subst (λ (ps : List Entry). IsFreeRun ps c.in-Some.first 1) c.self.invariant.holds.pages c.in-Some.ensures.found.run)

@@ -1,14 +1,15 @@
 -- The World at the start.
 use Rattle.std.proofs.Common.{ℕ, ap, ◌∙◌, refl, replicate}
-use Rattle.lisp_heap.specs.Sound.{parts_of}
 use Rattle.lisp_heap.specs.State.{fresh_state}
 use Rattle.lisp_heap.specs.declared.world.World.TheInside.{Inside}
-use Rattle.lisp_heap.proofs.Starting.{holds_start, starts_sound, start_cells}
+use Rattle.lisp_heap.specs.CellsView.{zero_cells}
+use Rattle.lisp_heap.proofs.Starting.{starts_sound, fresh_is}
 use Rattle.lisp_heap.proofs.world.World.new.Goals as goal
 
 pub invariant_of-world : goal.invariant_of-world
 invariant_of-world c =
     let s : Inside = record {
+      alloc = c.args.alloc;
       program = c.args.program;
       space = c.in_ok-space.space;
       pages = c.in_ok-pages.pages;
@@ -16,9 +17,9 @@ invariant_of-world c =
       cells = c.in_ok-cells.cells;
       states = c.in_ok-states.states;
       commits = 0;
-      history = c.new-5.result;
+      history = c.in_ok-history.history;
     } in
-    starts_sound s c.requires c.new-5.ensures.items
-    (holds_start c.args.program (parts_of s) c.in_ok-space.ensures c.in_ok-pages.ensures c.in_ok-labels.ensures
-    (c.in_ok-cells.ensures ∙ ap start_cells c.len-threads.ensures)
+    starts_sound s c.requires c.in_ok-history.ensures.items
+    (fresh_is s c.in_ok-space.ensures c.in_ok-pages.ensures c.in_ok-labels.ensures
+    (c.in_ok-cells.ensures ∙ ap zero_cells c.len-threads.ensures)
     (c.in_ok-states.ensures ∙ ap (λ (n : ℕ). replicate n fresh_state) c.len-threads.ensures) refl)

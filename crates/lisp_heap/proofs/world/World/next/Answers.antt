@@ -7,7 +7,7 @@ use Rattle.heap_terms.specs.declared.pages.Next.TheVariants as nexts
 use Rattle.heap_terms.specs.Heap.{thread_at}
 use Rattle.heap_terms.specs.Histories.{command_at, next_command, next_for}
 use Rattle.heap_terms.specs.Regions.{wish_of}
-use Rattle.heap_terms.proofs.Scripts.{script_command}
+use Rattle.heap_laws.proofs.ValidScripts.{script_command}
 use Rattle.lisp_heap.specs.Agreement.{Agrees, CanBuild}
 use Rattle.lisp_heap.specs.Sound.{view_of, IsSound}
 use Rattle.lisp_heap.specs.State.{state_of}

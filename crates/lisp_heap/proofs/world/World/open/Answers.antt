@@ -6,9 +6,10 @@ use Rattle.heap_terms.specs.declared.kinds.PageType.TheVariants as types
 use Rattle.heap_terms.specs.declared.pages.Next.TheVariants as nexts
 use Rattle.heap_terms.specs.Histories.{command_at, after}
 use Rattle.heap_terms.specs.Regions.{IsLowestRun}
-use Rattle.heap_terms.proofs.Places.{IsSome-value}
-use Rattle.lisp_heap.specs.Parcels.{with_cons}
+use Rattle.heap_laws.proofs.AtPlaces.{IsSome-value}
+use Rattle.lisp_heap.specs.ParcelView.{with_cons}
 use Rattle.lisp_heap.specs.Standing.{Holds}
+use Rattle.lisp_heap.specs.Sound.{IsSound}
 use Rattle.lisp_heap.specs.View.{View, heap_of, next_of}
 use Rattle.lisp_heap.specs.declared.world.World.TheInside.{Inside}
 use Rattle.lisp_heap.proofs.Soundness.{heap, states_length}
@@ -33,24 +34,28 @@ pub open_cons-requires : goal.open_cons-requires
 open_cons-requires c =
     omega (arith, thread_in c.self.inside c.args.self.now c.self.view_is c.args.t c.requires.thread, states_length c.self.inside c.self.invariant)
 
-pub invariant_of-self-2 : goal.invariant_of-self-2
-invariant_of-self-2 c =
+-- the fields after the call
+abbrev made : goal.After-open_cons → Inside
+made c = record {
+  alloc = c.self.inside.alloc;
+  program = c.self.inside.program;
+  space = c.self.inside.space;
+  pages = c.take_run.new.self;
+  labels = c.self.inside.labels;
+  cells = c.self.inside.cells;
+  states = c.open_cons.new.self;
+  commits = c.self.inside.commits;
+  history = c.push.new.self;
+}
+
+sound_made : (c : goal.After-open_cons) → IsSound (made c)
+sound_made c =
     let s = c.self.inside in
     let lt = thread_in s c.args.self.now c.self.view_is c.args.t c.requires.thread in
     let opens = subst (λ (w : View). next_of w c.args.t ≡ nexts.Open) (sym c.self.view_is) c.requires.opens in
     let found = IsSome-value (command_at s.program (heap s) c.args.t) (open_command s.program (heap s) c.args.t opens) in
     let lowest = subst (λ (w : View). IsLowestRun (heap_of w).pages c.args.first 1) (sym c.self.view_is) c.requires.run in
     let e = Opened c.args.t types.Cons c.args.first 1 in
-    let now : Inside = record {
-      program = s.program;
-      space = s.space;
-      pages = c.take_run.new.self;
-      labels = s.labels;
-      cells = s.cells;
-      states = c.open_cons.new.states;
-      commits = s.commits;
-      history = c.push.new.self;
-    } in
     let added : c.push.new.self.items ≡ c.reserve.new.self.items ++ e ∷ [] = rw c.unwrap.ensures at c.push.ensures.items in
     let pushed : c.push.new.self.items ≡ s.history.items ++ e ∷ [] = added ∙ ap (λ (es : List Event). es ++ e ∷ []) c.reserve.ensures.items in
     let held : Holds (after s.program (heap s) e) (record {
@@ -58,11 +63,14 @@ invariant_of-self-2 c =
       pages = c.take_run.new.self;
       labels = s.labels;
       cells = s.cells;
-      states = c.open_cons.new.states;
+      states = c.open_cons.new.self;
       commits = s.commits;
     }) =
     rw (c.take_run.ensures.opened refl, c.open_cons.ensures) (opened_holds s c.self.invariant c.args.t (found.0) c.args.first lt found.1 opens lowest) in
-    sound_after s now e c.self.invariant refl pushed (opened_next s c.self.invariant c.args.t (found.0) c.args.first lt found.1 opens lowest) held
+    sound_after s (made c) e c.self.invariant refl pushed (opened_next s c.self.invariant c.args.t (found.0) c.args.first lt found.1 opens lowest) held
+
+pub invariant_of-self-2 : goal.invariant_of-self-2
+invariant_of-self-2 c = sound_made c
 
 pub returns-clause-ok : goal.returns-clause-ok
 returns-clause-ok c =
@@ -72,19 +80,9 @@ returns-clause-ok c =
     let found = IsSome-value (command_at s.program (heap s) c.args.t) (open_command s.program (heap s) c.args.t opens) in
     let lowest = subst (λ (w : View). IsLowestRun (heap_of w).pages c.args.first 1) (sym c.self.view_is) c.requires.run in
     let e = Opened c.args.t types.Cons c.args.first 1 in
-    let now : Inside = record {
-      program = s.program;
-      space = s.space;
-      pages = c.take_run.new.self;
-      labels = s.labels;
-      cells = s.cells;
-      states = c.open_cons.new.states;
-      commits = s.commits;
-      history = c.push.new.self;
-    } in
     let added : c.push.new.self.items ≡ c.reserve.new.self.items ++ e ∷ [] = rw c.unwrap.ensures at c.push.ensures.items in
     let pushed : c.push.new.self.items ≡ s.history.items ++ e ∷ [] = added ∙ ap (λ (es : List Event). es ++ e ∷ []) c.reserve.ensures.items in
-    happens_after s now c.args.self.now c.args.t e c.self.view_is refl pushed refl (opened_next s c.self.invariant c.args.t (found.0) c.args.first lt found.1 opens lowest)
+    happens_after s (made c) c.args.self.now c.args.t e c.self.view_is refl pushed refl (opened_next s c.self.invariant c.args.t (found.0) c.args.first lt found.1 opens lowest) (sound_made c)
 
 pub returns-clause-agrees : goal.returns-clause-agrees
 returns-clause-agrees c = λ q owner. (
@@ -94,19 +92,9 @@ returns-clause-agrees c = λ q owner. (
     let found = IsSome-value (command_at s.program (heap s) c.args.t) (open_command s.program (heap s) c.args.t opens) in
     let lowest = subst (λ (w : View). IsLowestRun (heap_of w).pages c.args.first 1) (sym c.self.view_is) c.requires.run in
     let e = Opened c.args.t types.Cons c.args.first 1 in
-    let now : Inside = record {
-      program = s.program;
-      space = s.space;
-      pages = c.take_run.new.self;
-      labels = s.labels;
-      cells = s.cells;
-      states = c.open_cons.new.states;
-      commits = s.commits;
-      history = c.push.new.self;
-    } in
     let added : c.push.new.self.items ≡ c.reserve.new.self.items ++ e ∷ [] = rw c.unwrap.ensures at c.push.ensures.items in
     let pushed : c.push.new.self.items ≡ s.history.items ++ e ∷ [] = added ∙ ap (λ (es : List Event). es ++ e ∷ []) c.reserve.ensures.items in
-    agrees_after s now c.args.self.now e q (with_cons q c.args.first) c.self.view_is refl pushed (opened_agrees s c.self.invariant c.args.t (found.0) c.args.first lt found.1 opens lowest q owner))
+    agrees_after s (made c) c.args.self.now e q (with_cons q c.args.first) c.self.view_is refl pushed (opened_agrees s c.self.invariant c.args.t (found.0) c.args.first lt found.1 opens lowest q owner))
 
 pub returns-clause-others : goal.returns-clause-others
 returns-clause-others c = λ q other. (
@@ -116,16 +104,6 @@ returns-clause-others c = λ q other. (
     let found = IsSome-value (command_at s.program (heap s) c.args.t) (open_command s.program (heap s) c.args.t opens) in
     let lowest = subst (λ (w : View). IsLowestRun (heap_of w).pages c.args.first 1) (sym c.self.view_is) c.requires.run in
     let e = Opened c.args.t types.Cons c.args.first 1 in
-    let now : Inside = record {
-      program = s.program;
-      space = s.space;
-      pages = c.take_run.new.self;
-      labels = s.labels;
-      cells = s.cells;
-      states = c.open_cons.new.states;
-      commits = s.commits;
-      history = c.push.new.self;
-    } in
     let added : c.push.new.self.items ≡ c.reserve.new.self.items ++ e ∷ [] = rw c.unwrap.ensures at c.push.ensures.items in
     let pushed : c.push.new.self.items ≡ s.history.items ++ e ∷ [] = added ∙ ap (λ (es : List Event). es ++ e ∷ []) c.reserve.ensures.items in
-    agrees_after s now c.args.self.now e q q c.self.view_is refl pushed (opened_others s c.self.invariant c.args.t (found.0) c.args.first lt found.1 opens lowest q other))
+    agrees_after s (made c) c.args.self.now e q q c.self.view_is refl pushed (opened_others s c.self.invariant c.args.t (found.0) c.args.first lt found.1 opens lowest q other))

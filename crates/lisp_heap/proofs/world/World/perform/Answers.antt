@@ -1,118 +1,21 @@
--- A command that allocates nothing is one event.
-use Rattle.std.proofs.Common.{◌≡◌, arith, subst, ◌∙◌, sym, refl, Option, Some, IsSome}
-use Rattle.heap_terms.specs.declared.events.Event.TheVariants.{Did}
-use Rattle.heap_terms.specs.declared.commands.Command.{Command}
+-- A command that allocates nothing is one of four.
+use Rattle.std.proofs.Common.{◌≡◌, subst, sym, Some, IsSome}
 use Rattle.heap_terms.specs.declared.pages.Next.TheVariants as nexts
-use Rattle.heap_terms.specs.Histories.{command_at, after}
-use Rattle.lisp_heap.specs.Outcome.{IsOutcome}
-use Rattle.lisp_heap.specs.Standing.{Holds}
+use Rattle.heap_terms.specs.Histories.{command_at}
+use Rattle.lisp_heap.specs.Sound.{view_of}
 use Rattle.lisp_heap.specs.View.{View, heap_of, next_of}
-use Rattle.lisp_heap.specs.declared.world.World.TheInside.{Inside}
-use Rattle.lisp_heap.proofs.Soundness.{heap, states_length}
-use Rattle.lisp_heap.proofs.Stepping.{has_command, did_next, did_holds, did_agrees, can_change, state_room, sound_after, happens_after, agrees_after}
-use Rattle.lisp_heap.proofs.WordReading.{thread_in}
+use Rattle.lisp_heap.proofs.Commands.{one_of_four}
+use Rattle.lisp_heap.proofs.Stepping.{has_command}
 use Rattle.lisp_heap.proofs.world.World.perform.Goals as goal
 
-pub unwrap-command-requires : goal.unwrap-command-requires
-unwrap-command-requires c =
-    subst (λ (o : Option Command). IsSome o) (sym c.command.ensures)
+pub current-command-requires-clause-there : goal.current-command-requires-clause-there
+current-command-requires-clause-there c =
     (subst (λ (w : View). IsSome (command_at w.program (heap_of w) c.args.t)) c.self.view_is
     (has_command c.self.inside c.args.t (subst (λ (w : View). next_of w c.args.t ≡ nexts.Simple) (sym c.self.view_is) c.requires.simple)))
 
-pub apply-requires : goal.apply-requires
-apply-requires c =
-    let s = c.self.inside in
-    let lt = thread_in s c.args.self.now c.self.view_is c.args.t c.requires.thread in
-    let at : command_at s.program (heap s) c.args.t ≡ Some c.unwrap-command.result =
-    subst (λ (w : View). command_at w.program (heap_of w) c.args.t ≡ Some c.unwrap-command.result) (sym c.self.view_is) (sym c.command.ensures ∙ c.unwrap-command.ensures) in
-    let simple = subst (λ (w : View). next_of w c.args.t ≡ nexts.Simple) (sym c.self.view_is) c.requires.simple in
-    let is = subst (λ (w : View). IsOutcome (heap_of w) c.args.t c.unwrap-command.result c.outcome-answer.result.answer c.outcome-answer.result.change) (sym c.self.view_is) c.outcome-answer.ensures in
-    record { cells = can_change s c.self.invariant c.args.t c.unwrap-command.result c.outcome-answer.result.answer c.outcome-answer.result.change lt at simple is }
-
-pub advance-requires-clause-thread : goal.advance-requires-clause-thread
-advance-requires-clause-thread c =
-    omega (arith, thread_in c.self.inside c.args.self.now c.self.view_is c.args.t c.requires.thread, states_length c.self.inside c.self.invariant)
-
-pub advance-requires-clause-room : goal.advance-requires-clause-room
-advance-requires-clause-room c =
-    let s = c.self.inside in
-    let lt = thread_in s c.args.self.now c.self.view_is c.args.t c.requires.thread in
-    let at : command_at s.program (heap s) c.args.t ≡ Some c.unwrap-command.result =
-    subst (λ (w : View). command_at w.program (heap_of w) c.args.t ≡ Some c.unwrap-command.result) (sym c.self.view_is) (sym c.command.ensures ∙ c.unwrap-command.ensures) in
-    state_room s c.self.invariant c.args.t c.unwrap-command.result lt at
-
-pub invariant_of-self-2 : goal.invariant_of-self-2
-invariant_of-self-2 c =
-    let s = c.self.inside in
-    let lt = thread_in s c.args.self.now c.self.view_is c.args.t c.requires.thread in
-    let at : command_at s.program (heap s) c.args.t ≡ Some c.unwrap-command.result =
-    subst (λ (w : View). command_at w.program (heap_of w) c.args.t ≡ Some c.unwrap-command.result) (sym c.self.view_is) (sym c.command.ensures ∙ c.unwrap-command.ensures) in
-    let simple = subst (λ (w : View). next_of w c.args.t ≡ nexts.Simple) (sym c.self.view_is) c.requires.simple in
-    let is = subst (λ (w : View). IsOutcome (heap_of w) c.args.t c.unwrap-command.result c.outcome-answer.result.answer c.outcome-answer.result.change) (sym c.self.view_is) c.outcome-answer.ensures in
-    let e = Did c.args.t c.unwrap-command.result c.outcome-answer.result.answer in
-    let now : Inside = record {
-      program = s.program;
-      space = c.apply.new.space;
-      pages = s.pages;
-      labels = s.labels;
-      cells = c.apply.new.cells;
-      states = c.advance.new.states;
-      commits = s.commits;
-      history = c.push.new.self;
-    } in
-    let held : Holds (after s.program (heap s) e) (record {
-      words = c.apply.new.space;
-      pages = s.pages;
-      labels = s.labels;
-      cells = c.apply.new.cells;
-      states = c.advance.new.states;
-      commits = s.commits;
-    }) =
-    rw (c.apply.ensures.cells, c.apply.ensures.words, c.advance.ensures)
-    (did_holds s c.self.invariant c.args.t c.unwrap-command.result c.outcome-answer.result.answer c.outcome-answer.result.change lt at simple is) in
-    sound_after s now e c.self.invariant refl c.in_ok-push.ensures.items
-    (did_next s c.self.invariant c.args.t c.unwrap-command.result c.outcome-answer.result.answer c.outcome-answer.result.change lt at simple is) held
-
-pub returns-clause-ok : goal.returns-clause-ok
-returns-clause-ok c =
-    let s = c.self.inside in
-    let lt = thread_in s c.args.self.now c.self.view_is c.args.t c.requires.thread in
-    let at : command_at s.program (heap s) c.args.t ≡ Some c.unwrap-command.result =
-    subst (λ (w : View). command_at w.program (heap_of w) c.args.t ≡ Some c.unwrap-command.result) (sym c.self.view_is) (sym c.command.ensures ∙ c.unwrap-command.ensures) in
-    let simple = subst (λ (w : View). next_of w c.args.t ≡ nexts.Simple) (sym c.self.view_is) c.requires.simple in
-    let is = subst (λ (w : View). IsOutcome (heap_of w) c.args.t c.unwrap-command.result c.outcome-answer.result.answer c.outcome-answer.result.change) (sym c.self.view_is) c.outcome-answer.ensures in
-    let e = Did c.args.t c.unwrap-command.result c.outcome-answer.result.answer in
-    let now : Inside = record {
-      program = s.program;
-      space = c.apply.new.space;
-      pages = s.pages;
-      labels = s.labels;
-      cells = c.apply.new.cells;
-      states = c.advance.new.states;
-      commits = s.commits;
-      history = c.push.new.self;
-    } in
-    happens_after s now c.args.self.now c.args.t e c.self.view_is refl c.in_ok-push.ensures.items refl
-    (did_next s c.self.invariant c.args.t c.unwrap-command.result c.outcome-answer.result.answer c.outcome-answer.result.change lt at simple is)
-
-pub returns-clause-others : goal.returns-clause-others
-returns-clause-others c = λ q. (
-    let s = c.self.inside in
-    let lt = thread_in s c.args.self.now c.self.view_is c.args.t c.requires.thread in
-    let at : command_at s.program (heap s) c.args.t ≡ Some c.unwrap-command.result =
-    subst (λ (w : View). command_at w.program (heap_of w) c.args.t ≡ Some c.unwrap-command.result) (sym c.self.view_is) (sym c.command.ensures ∙ c.unwrap-command.ensures) in
-    let simple = subst (λ (w : View). next_of w c.args.t ≡ nexts.Simple) (sym c.self.view_is) c.requires.simple in
-    let is = subst (λ (w : View). IsOutcome (heap_of w) c.args.t c.unwrap-command.result c.outcome-answer.result.answer c.outcome-answer.result.change) (sym c.self.view_is) c.outcome-answer.ensures in
-    let e = Did c.args.t c.unwrap-command.result c.outcome-answer.result.answer in
-    let now : Inside = record {
-      program = s.program;
-      space = c.apply.new.space;
-      pages = s.pages;
-      labels = s.labels;
-      cells = c.apply.new.cells;
-      states = c.advance.new.states;
-      commits = s.commits;
-      history = c.push.new.self;
-    } in
-    agrees_after s now c.args.self.now e q q c.self.view_is refl c.in_ok-push.ensures.items
-    (did_agrees s c.self.invariant c.args.t c.unwrap-command.result c.outcome-answer.result.answer c.outcome-answer.result.change lt at simple is q))
+pub unreachable-requires : goal.unreachable-requires
+unreachable-requires c =
+    one_of_four c.self.inside.program (heap_of (view_of c.self.inside)) c.args.t c.current-command.result c.self.invariant.valid
+    (subst (λ (w : View). command_at w.program (heap_of w) c.args.t ≡ Some c.current-command.result) (sym c.self.view_is) c.current-command.ensures)
+    (subst (λ (w : View). next_of w c.args.t ≡ nexts.Simple) (sym c.self.view_is) c.requires.simple)
+    c.in_default.not-Fix c.in_default.not-Get c.in_default.not-Put c.in_default.not-Show

@@ -1,7 +1,6 @@
 -- The commit of a cons is one event.
-use Rattle.std.proofs.Common.{◌≡◌, ℕ, ◌+◌, ◌/◌, ◌%◌, ◌++◌, ◌∷◌, [], length, arith, subst, ap, ◌∙◌, sym, refl, Option, Some, IsSome, length-set}
+use Rattle.std.proofs.Common.{◌≡◌, ℕ, ◌+◌, ◌/◌, ◌%◌, ◌++◌, ◌∷◌, [], length, arith, subst, ap, ◌∙◌, sym, refl, Some, IsSome, length-set}
 use Rattle.heap_terms.specs.declared.answers.Answer.TheVariants as answers
-use Rattle.heap_terms.specs.declared.commands.Command.{Command}
 use Rattle.heap_terms.specs.declared.commands.Command.TheVariants as commands
 use Rattle.heap_terms.specs.declared.events.Event.TheVariants.{Did}
 use Rattle.heap_terms.specs.declared.kinds.Kind.TheVariants as kinds
@@ -9,10 +8,11 @@ use Rattle.heap_terms.specs.declared.pages.Next.TheVariants as nexts
 use Rattle.heap_terms.specs.Histories.{command_at, after}
 use Rattle.heap_terms.specs.Regions.{place_for, with_fill}
 use Rattle.heap_terms.specs.Heap.{entry_at, thread_at}
-use Rattle.heap_terms.specs.Words.{word_of}
+use Rattle.heap_terms.specs.Spelling.{word_of}
 use Rattle.heap_terms.specs.Cells.{cell_value}
-use Rattle.heap_terms.proofs.Scripts.{script_built}
-use Rattle.lisp_heap.specs.Parcels.{with_accepted}
+use Rattle.heap_laws.proofs.ValidScripts.{script_built}
+use Rattle.lisp_heap.specs.ParcelView.{with_accepted}
+use Rattle.lisp_heap.specs.Sound.{IsSound}
 use Rattle.lisp_heap.specs.View.{View, heap_of, next_of}
 use Rattle.lisp_heap.specs.declared.world.World.TheInside.{Inside}
 use Rattle.lisp_heap.proofs.Soundness.{heap, states_length, cells_room}
@@ -28,9 +28,8 @@ use Rattle.lisp_heap.proofs.PerformLemmas.{Holds-same}
 use Rattle.lisp_heap.proofs.Wishing.{build_command, builds_room, is_cons_command}
 use Rattle.lisp_heap.proofs.world.World.place.Goals as goal
 
-pub unwrap-command-requires : goal.unwrap-command-requires
-unwrap-command-requires c =
-    subst (λ (o : Option Command). IsSome o) (sym c.command.ensures)
+pub current-command-requires-clause-there : goal.current-command-requires-clause-there
+current-command-requires-clause-there c =
     (subst (λ (w : View). IsSome (command_at w.program (heap_of w) c.args.t)) c.self.view_is
     (build_command c.self.inside.program (heap c.self.inside) c.args.t kinds.Cons 2 0
     (subst (λ (w : View). next_of w c.args.t ≡ nexts.Build kinds.Cons 2 0) (sym c.self.view_is) c.requires.builds)))
@@ -38,11 +37,11 @@ unwrap-command-requires c =
 pub unreachable-requires : goal.unreachable-requires
 unreachable-requires c =
     let s = c.self.inside in
-    let at : command_at s.program (heap s) c.args.t ≡ Some c.unwrap-command.result =
-    subst (λ (w : View). command_at w.program (heap_of w) c.args.t ≡ Some c.unwrap-command.result) (sym c.self.view_is) (sym c.command.ensures ∙ c.unwrap-command.ensures) in
+    let at : command_at s.program (heap s) c.args.t ≡ Some c.current-command.result =
+    subst (λ (w : View). command_at w.program (heap_of w) c.args.t ≡ Some c.current-command.result) (sym c.self.view_is) c.current-command.ensures in
     let builds = subst (λ (w : View). next_of w c.args.t ≡ nexts.Build kinds.Cons 2 0) (sym c.self.view_is) c.requires.builds in
-    is_cons_command c.unwrap-command.result (script_built s.program c.args.t (thread_at (heap s) c.args.t).done c.unwrap-command.result c.self.invariant.valid at)
-    (builds_room s.program (heap s) c.args.t c.unwrap-command.result at builds).0 c.in_default.not-NewCons
+    is_cons_command c.current-command.result (script_built s.program c.args.t (thread_at (heap s) c.args.t).done c.current-command.result c.self.invariant.valid at)
+    (builds_room s.program (heap s) c.args.t c.current-command.result at builds).0 c.in_default.not-NewCons
 
 pub cell-first-requires-clause-cell : goal.cell-first-requires-clause-cell
 cell-first-requires-clause-cell c =
@@ -50,7 +49,7 @@ cell-first-requires-clause-cell c =
     let lt = thread_in s c.args.self.now c.self.view_is c.args.t c.requires.thread in
     let at : command_at s.program (heap s) c.args.t ≡ Some (commands.NewCons c.in-NewCons.d c.in-NewCons.a c.in-NewCons.b) =
     subst (λ (w : View). command_at w.program (heap_of w) c.args.t ≡ Some (commands.NewCons c.in-NewCons.d c.in-NewCons.a c.in-NewCons.b)) (sym c.self.view_is)
-    (sym c.command.ensures ∙ c.in-NewCons.ensures) in
+    c.in-NewCons.ensures in
     let builds = subst (λ (w : View). next_of w c.args.t ≡ nexts.Build kinds.Cons 2 0) (sym c.self.view_is) c.requires.builds in
     let place = subst (λ (w : View). c.args.index ≡ place_for (heap_of w) c.args.t kinds.Cons 2) (sym c.self.view_is) c.requires.place in
     (are_cells s c.self.invariant c.args.t c.in-NewCons.d c.in-NewCons.a c.in-NewCons.b c.args.index lt at builds place).1
@@ -61,7 +60,7 @@ cell-second-requires-clause-cell c =
     let lt = thread_in s c.args.self.now c.self.view_is c.args.t c.requires.thread in
     let at : command_at s.program (heap s) c.args.t ≡ Some (commands.NewCons c.in-NewCons.d c.in-NewCons.a c.in-NewCons.b) =
     subst (λ (w : View). command_at w.program (heap_of w) c.args.t ≡ Some (commands.NewCons c.in-NewCons.d c.in-NewCons.a c.in-NewCons.b)) (sym c.self.view_is)
-    (sym c.command.ensures ∙ c.in-NewCons.ensures) in
+    c.in-NewCons.ensures in
     let builds = subst (λ (w : View). next_of w c.args.t ≡ nexts.Build kinds.Cons 2 0) (sym c.self.view_is) c.requires.builds in
     let place = subst (λ (w : View). c.args.index ≡ place_for (heap_of w) c.args.t kinds.Cons 2) (sym c.self.view_is) c.requires.place in
     (are_cells s c.self.invariant c.args.t c.in-NewCons.d c.in-NewCons.a c.in-NewCons.b c.args.index lt at builds place).2
@@ -72,7 +71,7 @@ write-requires c =
     let lt = thread_in s c.args.self.now c.self.view_is c.args.t c.requires.thread in
     let at : command_at s.program (heap s) c.args.t ≡ Some (commands.NewCons c.in-NewCons.d c.in-NewCons.a c.in-NewCons.b) =
     subst (λ (w : View). command_at w.program (heap_of w) c.args.t ≡ Some (commands.NewCons c.in-NewCons.d c.in-NewCons.a c.in-NewCons.b)) (sym c.self.view_is)
-    (sym c.command.ensures ∙ c.in-NewCons.ensures) in
+    c.in-NewCons.ensures in
     let builds = subst (λ (w : View). next_of w c.args.t ≡ nexts.Build kinds.Cons 2 0) (sym c.self.view_is) c.requires.builds in
     let place = subst (λ (w : View). c.args.index ≡ place_for (heap_of w) c.args.t kinds.Cons 2) (sym c.self.view_is) c.requires.place in
     omega (arith, inside_space s c.self.invariant c.args.t c.in-NewCons.d c.in-NewCons.a c.in-NewCons.b c.args.index lt at builds place)
@@ -83,7 +82,7 @@ overflow_add-index c =
     let lt = thread_in s c.args.self.now c.self.view_is c.args.t c.requires.thread in
     let at : command_at s.program (heap s) c.args.t ≡ Some (commands.NewCons c.in-NewCons.d c.in-NewCons.a c.in-NewCons.b) =
     subst (λ (w : View). command_at w.program (heap_of w) c.args.t ≡ Some (commands.NewCons c.in-NewCons.d c.in-NewCons.a c.in-NewCons.b)) (sym c.self.view_is)
-    (sym c.command.ensures ∙ c.in-NewCons.ensures) in
+    c.in-NewCons.ensures in
     let builds = subst (λ (w : View). next_of w c.args.t ≡ nexts.Build kinds.Cons 2 0) (sym c.self.view_is) c.requires.builds in
     let place = subst (λ (w : View). c.args.index ≡ place_for (heap_of w) c.args.t kinds.Cons 2) (sym c.self.view_is) c.requires.place in
     omega (arith, index_below s c.self.invariant c.args.t c.in-NewCons.d c.in-NewCons.a c.in-NewCons.b c.args.index lt at builds place)
@@ -94,7 +93,7 @@ write-requires-2 c =
     let lt = thread_in s c.args.self.now c.self.view_is c.args.t c.requires.thread in
     let at : command_at s.program (heap s) c.args.t ≡ Some (commands.NewCons c.in-NewCons.d c.in-NewCons.a c.in-NewCons.b) =
     subst (λ (w : View). command_at w.program (heap_of w) c.args.t ≡ Some (commands.NewCons c.in-NewCons.d c.in-NewCons.a c.in-NewCons.b)) (sym c.self.view_is)
-    (sym c.command.ensures ∙ c.in-NewCons.ensures) in
+    c.in-NewCons.ensures in
     let builds = subst (λ (w : View). next_of w c.args.t ≡ nexts.Build kinds.Cons 2 0) (sym c.self.view_is) c.requires.builds in
     let place = subst (λ (w : View). c.args.index ≡ place_for (heap_of w) c.args.t kinds.Cons 2) (sym c.self.view_is) c.requires.place in
     let long : length c.write.new.self ≡ length s.space = ap length c.write.ensures ∙ length-set s.space c.args.index c.cell-first.result in
@@ -106,7 +105,7 @@ set-requires c =
     let lt = thread_in s c.args.self.now c.self.view_is c.args.t c.requires.thread in
     let at : command_at s.program (heap s) c.args.t ≡ Some (commands.NewCons c.in-NewCons.d c.in-NewCons.a c.in-NewCons.b) =
     subst (λ (w : View). command_at w.program (heap_of w) c.args.t ≡ Some (commands.NewCons c.in-NewCons.d c.in-NewCons.a c.in-NewCons.b)) (sym c.self.view_is)
-    (sym c.command.ensures ∙ c.in-NewCons.ensures) in
+    c.in-NewCons.ensures in
     let builds = subst (λ (w : View). next_of w c.args.t ≡ nexts.Build kinds.Cons 2 0) (sym c.self.view_is) c.requires.builds in
     let place = subst (λ (w : View). c.args.index ≡ place_for (heap_of w) c.args.t kinds.Cons 2) (sym c.self.view_is) c.requires.place in
     inside_labels s c.self.invariant c.args.t c.in-NewCons.d c.in-NewCons.a c.in-NewCons.b c.args.index lt at builds place
@@ -117,7 +116,7 @@ set_fill-requires-clause-inside c =
     let lt = thread_in s c.args.self.now c.self.view_is c.args.t c.requires.thread in
     let at : command_at s.program (heap s) c.args.t ≡ Some (commands.NewCons c.in-NewCons.d c.in-NewCons.a c.in-NewCons.b) =
     subst (λ (w : View). command_at w.program (heap_of w) c.args.t ≡ Some (commands.NewCons c.in-NewCons.d c.in-NewCons.a c.in-NewCons.b)) (sym c.self.view_is)
-    (sym c.command.ensures ∙ c.in-NewCons.ensures) in
+    c.in-NewCons.ensures in
     let builds = subst (λ (w : View). next_of w c.args.t ≡ nexts.Build kinds.Cons 2 0) (sym c.self.view_is) c.requires.builds in
     let place = subst (λ (w : View). c.args.index ≡ place_for (heap_of w) c.args.t kinds.Cons 2) (sym c.self.view_is) c.requires.place in
     inside_pages s c.self.invariant c.args.t c.in-NewCons.d c.in-NewCons.a c.in-NewCons.b c.args.index lt at builds place
@@ -128,7 +127,7 @@ set_fill-requires-clause-used c =
     let lt = thread_in s c.args.self.now c.self.view_is c.args.t c.requires.thread in
     let at : command_at s.program (heap s) c.args.t ≡ Some (commands.NewCons c.in-NewCons.d c.in-NewCons.a c.in-NewCons.b) =
     subst (λ (w : View). command_at w.program (heap_of w) c.args.t ≡ Some (commands.NewCons c.in-NewCons.d c.in-NewCons.a c.in-NewCons.b)) (sym c.self.view_is)
-    (sym c.command.ensures ∙ c.in-NewCons.ensures) in
+    c.in-NewCons.ensures in
     let builds = subst (λ (w : View). next_of w c.args.t ≡ nexts.Build kinds.Cons 2 0) (sym c.self.view_is) c.requires.builds in
     let place = subst (λ (w : View). c.args.index ≡ place_for (heap_of w) c.args.t kinds.Cons 2) (sym c.self.view_is) c.requires.place in
     is_used s c.self.invariant c.args.t c.in-NewCons.d c.in-NewCons.a c.in-NewCons.b c.args.index lt at builds place
@@ -139,21 +138,10 @@ set_fill-requires-clause-most c =
     let lt = thread_in s c.args.self.now c.self.view_is c.args.t c.requires.thread in
     let at : command_at s.program (heap s) c.args.t ≡ Some (commands.NewCons c.in-NewCons.d c.in-NewCons.a c.in-NewCons.b) =
     subst (λ (w : View). command_at w.program (heap_of w) c.args.t ≡ Some (commands.NewCons c.in-NewCons.d c.in-NewCons.a c.in-NewCons.b)) (sym c.self.view_is)
-    (sym c.command.ensures ∙ c.in-NewCons.ensures) in
+    c.in-NewCons.ensures in
     let builds = subst (λ (w : View). next_of w c.args.t ≡ nexts.Build kinds.Cons 2 0) (sym c.self.view_is) c.requires.builds in
     let place = subst (λ (w : View). c.args.index ≡ place_for (heap_of w) c.args.t kinds.Cons 2) (sym c.self.view_is) c.requires.place in
     fill_room s c.self.invariant c.args.t c.in-NewCons.d c.in-NewCons.a c.in-NewCons.b c.args.index lt at builds place
-
-pub tag-requires : goal.tag-requires
-tag-requires c =
-    let s = c.self.inside in
-    let lt = thread_in s c.args.self.now c.self.view_is c.args.t c.requires.thread in
-    let at : command_at s.program (heap s) c.args.t ≡ Some (commands.NewCons c.in-NewCons.d c.in-NewCons.a c.in-NewCons.b) =
-    subst (λ (w : View). command_at w.program (heap_of w) c.args.t ≡ Some (commands.NewCons c.in-NewCons.d c.in-NewCons.a c.in-NewCons.b)) (sym c.self.view_is)
-    (sym c.command.ensures ∙ c.in-NewCons.ensures) in
-    let builds = subst (λ (w : View). next_of w c.args.t ≡ nexts.Build kinds.Cons 2 0) (sym c.self.view_is) c.requires.builds in
-    let place = subst (λ (w : View). c.args.index ≡ place_for (heap_of w) c.args.t kinds.Cons 2) (sym c.self.view_is) c.requires.place in
-    omega (arith, index_below s c.self.invariant c.args.t c.in-NewCons.d c.in-NewCons.a c.in-NewCons.b c.args.index lt at builds place)
 
 pub write-requires-3-clause-cell : goal.write-requires-3-clause-cell
 write-requires-3-clause-cell c =
@@ -161,32 +149,14 @@ write-requires-3-clause-cell c =
     let lt = thread_in s c.args.self.now c.self.view_is c.args.t c.requires.thread in
     let at : command_at s.program (heap s) c.args.t ≡ Some (commands.NewCons c.in-NewCons.d c.in-NewCons.a c.in-NewCons.b) =
     subst (λ (w : View). command_at w.program (heap_of w) c.args.t ≡ Some (commands.NewCons c.in-NewCons.d c.in-NewCons.a c.in-NewCons.b)) (sym c.self.view_is)
-    (sym c.command.ensures ∙ c.in-NewCons.ensures) in
+    c.in-NewCons.ensures in
     let builds = subst (λ (w : View). next_of w c.args.t ≡ nexts.Build kinds.Cons 2 0) (sym c.self.view_is) c.requires.builds in
     let place = subst (λ (w : View). c.args.index ≡ place_for (heap_of w) c.args.t kinds.Cons 2) (sym c.self.view_is) c.requires.place in
     (are_cells s c.self.invariant c.args.t c.in-NewCons.d c.in-NewCons.a c.in-NewCons.b c.args.index lt at builds place).0
 
-pub write-requires-3-clause-stack : goal.write-requires-3-clause-stack
-write-requires-3-clause-stack c =
-    let s = c.self.inside in
-    let lt = thread_in s c.args.self.now c.self.view_is c.args.t c.requires.thread in
-    let at : command_at s.program (heap s) c.args.t ≡ Some (commands.NewCons c.in-NewCons.d c.in-NewCons.a c.in-NewCons.b) =
-    subst (λ (w : View). command_at w.program (heap_of w) c.args.t ≡ Some (commands.NewCons c.in-NewCons.d c.in-NewCons.a c.in-NewCons.b)) (sym c.self.view_is)
-    (sym c.command.ensures ∙ c.in-NewCons.ensures) in
-    let builds = subst (λ (w : View). next_of w c.args.t ≡ nexts.Build kinds.Cons 2 0) (sym c.self.view_is) c.requires.builds in
-    let place = subst (λ (w : View). c.args.index ≡ place_for (heap_of w) c.args.t kinds.Cons 2) (sym c.self.view_is) c.requires.place in
-    (cells_room s c.args.t c.self.invariant lt).0
-
-pub write-requires-3-clause-exact : goal.write-requires-3-clause-exact
-write-requires-3-clause-exact c =
-    let s = c.self.inside in
-    let lt = thread_in s c.args.self.now c.self.view_is c.args.t c.requires.thread in
-    let at : command_at s.program (heap s) c.args.t ≡ Some (commands.NewCons c.in-NewCons.d c.in-NewCons.a c.in-NewCons.b) =
-    subst (λ (w : View). command_at w.program (heap_of w) c.args.t ≡ Some (commands.NewCons c.in-NewCons.d c.in-NewCons.a c.in-NewCons.b)) (sym c.self.view_is)
-    (sym c.command.ensures ∙ c.in-NewCons.ensures) in
-    let builds = subst (λ (w : View). next_of w c.args.t ≡ nexts.Build kinds.Cons 2 0) (sym c.self.view_is) c.requires.builds in
-    let place = subst (λ (w : View). c.args.index ≡ place_for (heap_of w) c.args.t kinds.Cons 2) (sym c.self.view_is) c.requires.place in
-    (cells_room s c.args.t c.self.invariant lt).1
+pub write-requires-3-clause-room : goal.write-requires-3-clause-room
+write-requires-3-clause-room c =
+    cells_room c.self.inside c.args.t c.self.invariant (thread_in c.self.inside c.args.self.now c.self.view_is c.args.t c.requires.thread)
 
 pub overflow_add-self : goal.overflow_add-self
 overflow_add-self c =
@@ -194,7 +164,7 @@ overflow_add-self c =
     let lt = thread_in s c.args.self.now c.self.view_is c.args.t c.requires.thread in
     let at : command_at s.program (heap s) c.args.t ≡ Some (commands.NewCons c.in-NewCons.d c.in-NewCons.a c.in-NewCons.b) =
     subst (λ (w : View). command_at w.program (heap_of w) c.args.t ≡ Some (commands.NewCons c.in-NewCons.d c.in-NewCons.a c.in-NewCons.b)) (sym c.self.view_is)
-    (sym c.command.ensures ∙ c.in-NewCons.ensures) in
+    c.in-NewCons.ensures in
     let builds = subst (λ (w : View). next_of w c.args.t ≡ nexts.Build kinds.Cons 2 0) (sym c.self.view_is) c.requires.builds in
     let place = subst (λ (w : View). c.args.index ≡ place_for (heap_of w) c.args.t kinds.Cons 2) (sym c.self.view_is) c.requires.place in
     omega (arith, few_commits s c.self.invariant c.args.t c.in-NewCons.d c.in-NewCons.a c.in-NewCons.b c.args.index lt at builds place)
@@ -205,7 +175,7 @@ advance-requires-clause-thread c =
     let lt = thread_in s c.args.self.now c.self.view_is c.args.t c.requires.thread in
     let at : command_at s.program (heap s) c.args.t ≡ Some (commands.NewCons c.in-NewCons.d c.in-NewCons.a c.in-NewCons.b) =
     subst (λ (w : View). command_at w.program (heap_of w) c.args.t ≡ Some (commands.NewCons c.in-NewCons.d c.in-NewCons.a c.in-NewCons.b)) (sym c.self.view_is)
-    (sym c.command.ensures ∙ c.in-NewCons.ensures) in
+    c.in-NewCons.ensures in
     let builds = subst (λ (w : View). next_of w c.args.t ≡ nexts.Build kinds.Cons 2 0) (sym c.self.view_is) c.requires.builds in
     let place = subst (λ (w : View). c.args.index ≡ place_for (heap_of w) c.args.t kinds.Cons 2) (sym c.self.view_is) c.requires.place in
     omega (arith, lt, states_length s c.self.invariant)
@@ -216,33 +186,37 @@ advance-requires-clause-room c =
     let lt = thread_in s c.args.self.now c.self.view_is c.args.t c.requires.thread in
     let at : command_at s.program (heap s) c.args.t ≡ Some (commands.NewCons c.in-NewCons.d c.in-NewCons.a c.in-NewCons.b) =
     subst (λ (w : View). command_at w.program (heap_of w) c.args.t ≡ Some (commands.NewCons c.in-NewCons.d c.in-NewCons.a c.in-NewCons.b)) (sym c.self.view_is)
-    (sym c.command.ensures ∙ c.in-NewCons.ensures) in
+    c.in-NewCons.ensures in
     let builds = subst (λ (w : View). next_of w c.args.t ≡ nexts.Build kinds.Cons 2 0) (sym c.self.view_is) c.requires.builds in
     let place = subst (λ (w : View). c.args.index ≡ place_for (heap_of w) c.args.t kinds.Cons 2) (sym c.self.view_is) c.requires.place in
     state_room s c.self.invariant c.args.t (commands.NewCons c.in-NewCons.d c.in-NewCons.a c.in-NewCons.b) lt at
 
-pub invariant_of-self-2 : goal.invariant_of-self-2
-invariant_of-self-2 c =
+-- the fields after the call
+abbrev made : goal.After-advance → Inside
+made c = record {
+  alloc = c.self.inside.alloc;
+  program = c.self.inside.program;
+  space = c.write-2.new.self;
+  pages = c.set_fill.new.self;
+  labels = c.set.new.self;
+  cells = c.write-3.new.self;
+  states = c.advance.new.self;
+  commits = c.self.inside.commits + 1;
+  history = c.push.new.self;
+}
+
+sound_made : (c : goal.After-advance) → IsSound (made c)
+sound_made c =
     let s = c.self.inside in
     let lt = thread_in s c.args.self.now c.self.view_is c.args.t c.requires.thread in
     let at : command_at s.program (heap s) c.args.t ≡ Some (commands.NewCons c.in-NewCons.d c.in-NewCons.a c.in-NewCons.b) =
     subst (λ (w : View). command_at w.program (heap_of w) c.args.t ≡ Some (commands.NewCons c.in-NewCons.d c.in-NewCons.a c.in-NewCons.b)) (sym c.self.view_is)
-    (sym c.command.ensures ∙ c.in-NewCons.ensures) in
+    c.in-NewCons.ensures in
     let builds = subst (λ (w : View). next_of w c.args.t ≡ nexts.Build kinds.Cons 2 0) (sym c.self.view_is) c.requires.builds in
     let place = subst (λ (w : View). c.args.index ≡ place_for (heap_of w) c.args.t kinds.Cons 2) (sym c.self.view_is) c.requires.place in
     let e = Did c.args.t (commands.NewCons c.in-NewCons.d c.in-NewCons.a c.in-NewCons.b) (answers.Placed (length (heap s).objects) c.args.index) in
     let same_event : c.push.new.self.items ≡ s.history.items ++ e ∷ [] =
     c.in_ok-push.ensures.items ∙ ap (λ (n : ℕ). s.history.items ++ Did c.args.t (commands.NewCons c.in-NewCons.d c.in-NewCons.a c.in-NewCons.b) (answers.Placed n c.args.index) ∷ []) c.self.invariant.holds.commits in
-    let now : Inside = record {
-      program = s.program;
-      space = c.write-2.new.self;
-      pages = c.set_fill.new.self;
-      labels = c.set.new.self;
-      cells = c.write-3.new.self;
-      states = c.advance.new.states;
-      commits = s.commits + 1;
-      history = c.push.new.self;
-    } in
     let first : c.cell-first.result ≡ word_of (heap s).objects (cell_value (heap s) c.args.t c.in-NewCons.a) =
     subst (λ (w : View). c.cell-first.result ≡ word_of (heap_of w).objects (cell_value (heap_of w) c.args.t c.in-NewCons.a)) (sym c.self.view_is) c.cell-first.ensures in
     let second : c.cell-second.result ≡ word_of (heap s).objects (cell_value (heap s) c.args.t c.in-NewCons.b) =
@@ -262,7 +236,7 @@ invariant_of-self-2 c =
       pages = c.set_fill.new.self;
       labels = c.set.new.self;
       cells = c.write-3.new.self;
-      states = c.advance.new.states;
+      states = c.advance.new.self;
       commits = s.commits + 1;
     })
     (w1 ∙ ap (λ (ws : List ℕ). slice_set ws (c.args.index + 1) c.cell-second.result) w2
@@ -273,7 +247,10 @@ invariant_of-self-2 c =
     (c.write-3.ensures ∙ ap (λ (v : ℕ). with_cell_word s.cells c.args.t c.in-NewCons.d v) c.tag.ensures)
     c.advance.ensures refl
     (placed_holds s c.self.invariant c.args.t c.in-NewCons.d c.in-NewCons.a c.in-NewCons.b c.args.index lt at builds place) in
-    sound_after s now e c.self.invariant refl same_event (placed_next s c.self.invariant c.args.t c.in-NewCons.d c.in-NewCons.a c.in-NewCons.b c.args.index lt at builds place) held
+    sound_after s (made c) e c.self.invariant refl same_event (placed_next s c.self.invariant c.args.t c.in-NewCons.d c.in-NewCons.a c.in-NewCons.b c.args.index lt at builds place) held
+
+pub invariant_of-self-2 : goal.invariant_of-self-2
+invariant_of-self-2 c = sound_made c
 
 pub returns-clause-ok : goal.returns-clause-ok
 returns-clause-ok c =
@@ -281,23 +258,13 @@ returns-clause-ok c =
     let lt = thread_in s c.args.self.now c.self.view_is c.args.t c.requires.thread in
     let at : command_at s.program (heap s) c.args.t ≡ Some (commands.NewCons c.in-NewCons.d c.in-NewCons.a c.in-NewCons.b) =
     subst (λ (w : View). command_at w.program (heap_of w) c.args.t ≡ Some (commands.NewCons c.in-NewCons.d c.in-NewCons.a c.in-NewCons.b)) (sym c.self.view_is)
-    (sym c.command.ensures ∙ c.in-NewCons.ensures) in
+    c.in-NewCons.ensures in
     let builds = subst (λ (w : View). next_of w c.args.t ≡ nexts.Build kinds.Cons 2 0) (sym c.self.view_is) c.requires.builds in
     let place = subst (λ (w : View). c.args.index ≡ place_for (heap_of w) c.args.t kinds.Cons 2) (sym c.self.view_is) c.requires.place in
     let e = Did c.args.t (commands.NewCons c.in-NewCons.d c.in-NewCons.a c.in-NewCons.b) (answers.Placed (length (heap s).objects) c.args.index) in
     let same_event : c.push.new.self.items ≡ s.history.items ++ e ∷ [] =
     c.in_ok-push.ensures.items ∙ ap (λ (n : ℕ). s.history.items ++ Did c.args.t (commands.NewCons c.in-NewCons.d c.in-NewCons.a c.in-NewCons.b) (answers.Placed n c.args.index) ∷ []) c.self.invariant.holds.commits in
-    let now : Inside = record {
-      program = s.program;
-      space = c.write-2.new.self;
-      pages = c.set_fill.new.self;
-      labels = c.set.new.self;
-      cells = c.write-3.new.self;
-      states = c.advance.new.states;
-      commits = s.commits + 1;
-      history = c.push.new.self;
-    } in
-    happens_after s now c.args.self.now c.args.t e c.self.view_is refl same_event refl (placed_next s c.self.invariant c.args.t c.in-NewCons.d c.in-NewCons.a c.in-NewCons.b c.args.index lt at builds place)
+    happens_after s (made c) c.args.self.now c.args.t e c.self.view_is refl same_event refl (placed_next s c.self.invariant c.args.t c.in-NewCons.d c.in-NewCons.a c.in-NewCons.b c.args.index lt at builds place) (sound_made c)
 
 pub returns-clause-agrees : goal.returns-clause-agrees
 returns-clause-agrees c = λ q owner. (
@@ -305,23 +272,13 @@ returns-clause-agrees c = λ q owner. (
     let lt = thread_in s c.args.self.now c.self.view_is c.args.t c.requires.thread in
     let at : command_at s.program (heap s) c.args.t ≡ Some (commands.NewCons c.in-NewCons.d c.in-NewCons.a c.in-NewCons.b) =
     subst (λ (w : View). command_at w.program (heap_of w) c.args.t ≡ Some (commands.NewCons c.in-NewCons.d c.in-NewCons.a c.in-NewCons.b)) (sym c.self.view_is)
-    (sym c.command.ensures ∙ c.in-NewCons.ensures) in
+    c.in-NewCons.ensures in
     let builds = subst (λ (w : View). next_of w c.args.t ≡ nexts.Build kinds.Cons 2 0) (sym c.self.view_is) c.requires.builds in
     let place = subst (λ (w : View). c.args.index ≡ place_for (heap_of w) c.args.t kinds.Cons 2) (sym c.self.view_is) c.requires.place in
     let e = Did c.args.t (commands.NewCons c.in-NewCons.d c.in-NewCons.a c.in-NewCons.b) (answers.Placed (length (heap s).objects) c.args.index) in
     let same_event : c.push.new.self.items ≡ s.history.items ++ e ∷ [] =
     c.in_ok-push.ensures.items ∙ ap (λ (n : ℕ). s.history.items ++ Did c.args.t (commands.NewCons c.in-NewCons.d c.in-NewCons.a c.in-NewCons.b) (answers.Placed n c.args.index) ∷ []) c.self.invariant.holds.commits in
-    let now : Inside = record {
-      program = s.program;
-      space = c.write-2.new.self;
-      pages = c.set_fill.new.self;
-      labels = c.set.new.self;
-      cells = c.write-3.new.self;
-      states = c.advance.new.states;
-      commits = s.commits + 1;
-      history = c.push.new.self;
-    } in
-    agrees_after s now c.args.self.now e q (with_accepted q) c.self.view_is refl same_event (placed_agrees s c.self.invariant c.args.t c.in-NewCons.d c.in-NewCons.a c.in-NewCons.b c.args.index lt at builds place q owner))
+    agrees_after s (made c) c.args.self.now e q (with_accepted q) c.self.view_is refl same_event (placed_agrees s c.self.invariant c.args.t c.in-NewCons.d c.in-NewCons.a c.in-NewCons.b c.args.index lt at builds place q owner))
 
 pub returns-clause-others : goal.returns-clause-others
 returns-clause-others c = λ q other. (
@@ -329,20 +286,10 @@ returns-clause-others c = λ q other. (
     let lt = thread_in s c.args.self.now c.self.view_is c.args.t c.requires.thread in
     let at : command_at s.program (heap s) c.args.t ≡ Some (commands.NewCons c.in-NewCons.d c.in-NewCons.a c.in-NewCons.b) =
     subst (λ (w : View). command_at w.program (heap_of w) c.args.t ≡ Some (commands.NewCons c.in-NewCons.d c.in-NewCons.a c.in-NewCons.b)) (sym c.self.view_is)
-    (sym c.command.ensures ∙ c.in-NewCons.ensures) in
+    c.in-NewCons.ensures in
     let builds = subst (λ (w : View). next_of w c.args.t ≡ nexts.Build kinds.Cons 2 0) (sym c.self.view_is) c.requires.builds in
     let place = subst (λ (w : View). c.args.index ≡ place_for (heap_of w) c.args.t kinds.Cons 2) (sym c.self.view_is) c.requires.place in
     let e = Did c.args.t (commands.NewCons c.in-NewCons.d c.in-NewCons.a c.in-NewCons.b) (answers.Placed (length (heap s).objects) c.args.index) in
     let same_event : c.push.new.self.items ≡ s.history.items ++ e ∷ [] =
     c.in_ok-push.ensures.items ∙ ap (λ (n : ℕ). s.history.items ++ Did c.args.t (commands.NewCons c.in-NewCons.d c.in-NewCons.a c.in-NewCons.b) (answers.Placed n c.args.index) ∷ []) c.self.invariant.holds.commits in
-    let now : Inside = record {
-      program = s.program;
-      space = c.write-2.new.self;
-      pages = c.set_fill.new.self;
-      labels = c.set.new.self;
-      cells = c.write-3.new.self;
-      states = c.advance.new.states;
-      commits = s.commits + 1;
-      history = c.push.new.self;
-    } in
-    agrees_after s now c.args.self.now e q q c.self.view_is refl same_event (placed_others s c.self.invariant c.args.t c.in-NewCons.d c.in-NewCons.a c.in-NewCons.b c.args.index lt at builds place q other))
+    agrees_after s (made c) c.args.self.now e q q c.self.view_is refl same_event (placed_others s c.self.invariant c.args.t c.in-NewCons.d c.in-NewCons.a c.in-NewCons.b c.args.index lt at builds place q other))

@@ -1,7 +1,7 @@
 -- `show` answers the cell's value.
 use Rattle.heap_terms.specs.Cells.{cell_value}
 use Rattle.lisp_heap.specs.View.{heap_of}
-use Rattle.lisp_heap.proofs.Outcomes.{shown_is}
+use Rattle.lisp_heap.proofs.Plans.{shown_is}
 use Rattle.lisp_heap.proofs.WordReading.{cell_lives, cell_word_of}
 use Rattle.lisp_heap.proofs.world.World.shown.Goals as goal
 

@@ -4,8 +4,8 @@ use Rattle.std.proofs.lemmas.List.{get_or_default}
 use Rattle.heap_terms.specs.declared.cells.Value.{Value}
 use Rattle.heap_terms.specs.declared.cells.Value.TheVariants.{Ref, Nil}
 use Rattle.heap_terms.specs.WellFormed.{IsLiving}
-use Rattle.heap_terms.specs.Words.{word_of}
-use Rattle.lisp_heap.specs.Reading.{IsWord}
+use Rattle.heap_terms.specs.Spelling.{word_of}
+use Rattle.lisp_heap.specs.LivingWords.{IsWord}
 use Rattle.lisp_heap.specs.Sound.{view_of}
 use Rattle.lisp_heap.specs.View.{View, heap_of}
 use Rattle.lisp_heap.proofs.WordReading.{found_at, nil_at, label_is, label_there}

@@ -5,4 +5,4 @@ use Rattle.heap_terms.specs.Text.{field, item_text}
 use Rattle.lispheap.proofs.journal.pages.push_items.Given as goal
 
 abbrev pub invariant-loop-item : goal.invariant-loop-item
-invariant-loop-item l = l.out.items ≡ l.initial.out.items ++ flat_map (λ (item : Item). field (item_text item.name item.index item.count)) (take l.item-index l.items)
+invariant-loop-item l = l.out.text ≡ l.initial.out.text ++ flat_map (λ (item : Item). field (item_text item.name item.index item.count)) (take l.item-index l.items)

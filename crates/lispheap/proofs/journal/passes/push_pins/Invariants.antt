@@ -5,4 +5,4 @@ use Rattle.heap_terms.specs.Text.{field, line, name_text, index_text}
 use Rattle.lispheap.proofs.journal.passes.push_pins.Given as goal
 
 abbrev pub invariant-loop-pin : goal.invariant-loop-pin
-invariant-loop-pin l = l.out.items ≡ l.initial.out.items ++ flat_map (λ (q : PinAt). line (codes "pin" ++ field (name_text q.name) ++ field (index_text q.index))) (take l.pin-index l.pins)
+invariant-loop-pin l = l.out.text ≡ l.initial.out.text ++ flat_map (λ (q : PinAt). line (codes "pin" ++ field (name_text q.name) ++ field (index_text q.index))) (take l.pin-index l.pins)

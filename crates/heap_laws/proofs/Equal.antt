@@ -1,0 +1,3 @@
+-- Equality is equality of data.
+pub mod Commands
+pub mod Records

@@ -1,0 +1,3 @@
+-- Lists, and sums over them.
+pub mod Places
+pub mod Sums

@@ -1,0 +1,5 @@
+-- What one command does.
+pub mod Outcome
+pub mod Put
+pub mod Cons
+pub mod Names

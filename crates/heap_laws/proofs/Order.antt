@@ -1,0 +1,5 @@
+-- The order of events.
+pub mod ScriptsInOrder
+pub mod Determined
+pub mod RunsAsRelation
+pub mod OneRun

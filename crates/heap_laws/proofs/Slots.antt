@@ -1,0 +1,3 @@
+-- The slots of an object and its words.
+pub mod Spelled
+pub mod Counted

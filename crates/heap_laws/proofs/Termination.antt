@@ -1,0 +1,2 @@
+-- Every history ends.
+pub mod EventsLeft

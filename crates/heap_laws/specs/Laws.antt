@@ -1,0 +1,82 @@
+-- Laws of the definitions, each for every program: what a reader may rely on beside the definitions themselves.
+use Rattle.std.specs.Prelude.{◌≡◌, ◌↔◌, ℕ, ◌+◌, ◌<◌, ◌≤◌, List, [], ◌∷◌, ◌++◌, length, map, All, IfSome, false}
+use Rattle.heap_terms.specs.declared.events.Event.{Event}
+use Rattle.heap_terms.specs.declared.kinds.Kind.TheVariants as kinds
+use Rattle.heap_terms.specs.declared.pages.Next.TheVariants as nexts
+use Rattle.heap_terms.specs.declared.programs.Program.{Program}
+use Rattle.heap_terms.specs.declared.limits.TheConstants.{MOST_COMMANDS}
+use Rattle.heap_terms.specs.Complete.{IsComplete}
+use Rattle.heap_terms.specs.Heap.{NamedHeap, object_at, thread_at}
+use Rattle.heap_terms.specs.Histories.{IsNext, after, next, Lawful, LawfulFrom, replay, replay_from, thread_of, script_of}
+use Rattle.heap_laws.specs.Remaining.{all_left, events_at_most, most_events}
+use Rattle.heap_terms.specs.Objects.{kind_of}
+use Rattle.heap_laws.specs.Order.{commands_of, events_of, EndsOnce, orders_of}
+use Rattle.heap_laws.specs.Plain.{IsPlain}
+use Rattle.heap_laws.specs.HeapRuns.{IsRunOf}
+use Rattle.heap_terms.specs.Valid.{IsValid}
+use Rattle.heap_terms.specs.WellFormed.{IsWellFormed}
+
+-- a lawful history and an event that may come next make a lawful history, whose heap is the one after the event
+abbrev pub HistoriesGrow : Type 0
+HistoriesGrow = (p : Program) (h : List Event) (e : Event) → Lawful p h → IsNext p (replay p h) e →
+    Lawful p (h ++ e ∷ []) × (replay p (h ++ e ∷ []) ≡ after p (replay p h) e)
+
+-- every lawful history of a valid program leaves a well-formed heap
+abbrev pub HeapsAreWellFormed : Type 0
+HeapsAreWellFormed = (p : Program) (h : List Event) → IsValid p → Lawful p h → IsWellFormed p (replay p h)
+
+-- of at most 20,000 objects; until more kinds are built, all of them conses
+abbrev pub HeapsAreSmall : Type 0
+HeapsAreSmall = (p : Program) (h : List Event) → IsValid p → Lawful p h →
+    (length (replay p h).objects ≤ MOST_COMMANDS)
+    × ((name : ℕ) → IfSome (object_at (replay p h).objects name) (λ o. kind_of o.contents ≡ kinds.Cons))
+
+-- until collections are built no thread owes one
+abbrev pub NobodyCollects : Type 0
+NobodyCollects = (p : Program) (h : List Event) (t last : ℕ) → IsValid p → Lawful p h → ¬ (next p (replay p h) t ≡ nexts.Collect last)
+
+-- with each event, collections too, there is less left, so that every history ends: it has at most so many events as follow
+-- from its program, and never more than 41,168
+abbrev pub HistoriesEnd : Type 0
+HistoriesEnd =
+    ((p : Program) (h : List Event) (e : Event) → IsValid p → Lawful p h → IsNext p (replay p h) e →
+    all_left p (after p (replay p h) e) + 1 ≤ all_left p (replay p h))
+    × ((p : Program) (h : List Event) → IsValid p → Lawful p h → length h ≤ events_at_most p)
+    × ((p : Program) → IsValid p → events_at_most p ≤ most_events)
+
+-- until collections are built each thread that has not ended has an event that may come next
+abbrev pub ThreadsGoOn : Type 0
+ThreadsGoOn = (p : Program) (h : List Event) (t : ℕ) → IsValid p → Lawful p h → (thread_at (replay p h) t).ended ≡ false →
+    (e : Event) × (thread_of e ≡ t) × IsNext p (replay p h) e
+
+-- while some thread has not ended some event may come next, collections or not
+abbrev pub HistoriesGoOn : Type 0
+HistoriesGoOn = (p : Program) (h : List Event) (t : ℕ) → IsValid p → Lawful p h → (thread_at (replay p h) t).ended ≡ false →
+    (e : Event) × IsNext p (replay p h) e
+
+-- so that every history is the beginning of a complete one
+abbrev pub HistoriesComplete : Type 0
+HistoriesComplete = (p : Program) (h : List Event) → IsValid p → Lawful p h → (more : List Event) × IsComplete p (h ++ more)
+
+-- runs as a relation are the lawful lists of events, with the heap that they replay to
+abbrev pub RunsAreLawful : Type 0
+RunsAreLawful = (p : Program) (a : NamedHeap) (h : List Event) (b : NamedHeap) →
+    IsRunOf p a h b ↔ (LawfulFrom p a h × (b ≡ replay_from p a h))
+
+-- in a complete history each thread does the commands of its script once and in order, and its last event is its
+-- only end
+abbrev pub ScriptsAreDone : Type 0
+ScriptsAreDone = (p : Program) (h : List Event) (t : ℕ) → IsValid p → IsComplete p h → t < length p.threads →
+    (commands_of t h ≡ script_of p t) × EndsOnce t (events_of t h)
+
+-- every event of a lawful history of a valid program is plain; until collections are built none is one
+abbrev pub EventsArePlain : Type 0
+EventsArePlain = (p : Program) (h : List Event) → IsValid p → Lawful p h → All IsPlain h
+
+-- What a thread may do next is one event, but for the orders in which a collection takes its names: so the order of the
+-- threads and those orders determine a history; and until collections are built the order of the threads does.
+abbrev pub OrderDetermines : Type 0
+OrderDetermines =
+    ((p : Program) (a : NamedHeap) (e f : Event) → IsNext p a e → IsNext p a f → thread_of e ≡ thread_of f → orders_of e ≡ orders_of f → e ≡ f)
+    × ((p : Program) (h g : List Event) → Lawful p h → Lawful p g → map thread_of h ≡ map thread_of g → map orders_of h ≡ map orders_of g → h ≡ g)
+    × ((p : Program) (h g : List Event) → IsValid p → Lawful p h → Lawful p g → map thread_of h ≡ map thread_of g → h ≡ g)

@@ -1,0 +1,42 @@
+-- What stands in the events of a valid program: the commands that are built, and numbers in their ranges.
+use Rattle.std.specs.Prelude.{◌<◌, ◌≤◌}
+use Rattle.heap_terms.specs.declared.answers.Answer.{Answer}
+use Rattle.heap_terms.specs.declared.answers.Answer.TheVariants.{Done, Val, Word, Yes, No, Absent, Live, Broken, Count, Ran, Page, Stat, Placed, Refused}
+use Rattle.heap_terms.specs.declared.cells.Value.{Value}
+use Rattle.heap_terms.specs.declared.cells.Value.TheVariants.{Fix, Nil, Unbound, Ref}
+use Rattle.heap_terms.specs.declared.events.Event.{Event}
+use Rattle.heap_terms.specs.declared.events.Event.TheVariants.{Did, Opened, Collected, Ended}
+use Rattle.heap_terms.specs.declared.limits.TheConstants.{MOST_COMMANDS, MOST_PAGES, MOST_THREADS, MOST_WORDS}
+use Rattle.heap_terms.specs.Valid.{IsFixnum, IsCommand}
+
+-- a value that a cell can hold, with one of at most 20,000 names
+abbrev pub IsPlainValue : Value → Type 0
+IsPlainValue (Fix n) = IsFixnum n
+IsPlainValue Nil = Unit {0}
+IsPlainValue Unbound = ⊥
+IsPlainValue (Ref name) = name < MOST_COMMANDS
+
+-- the answers of the commands that are built; an index is that of one of at most 1,024 pages' words
+abbrev pub IsPlainAnswer : Answer → Type 0
+IsPlainAnswer Done = Unit {0}
+IsPlainAnswer (Val v) = IsPlainValue v
+IsPlainAnswer (Word w) = ⊥
+IsPlainAnswer Yes = ⊥
+IsPlainAnswer No = ⊥
+IsPlainAnswer Absent = ⊥
+IsPlainAnswer (Live v) = ⊥
+IsPlainAnswer Broken = ⊥
+IsPlainAnswer (Count n) = ⊥
+IsPlainAnswer (Ran ids) = ⊥
+IsPlainAnswer (Page view) = ⊥
+IsPlainAnswer (Stat allocated cum num) = ⊥
+IsPlainAnswer (Placed name index) = (name < MOST_COMMANDS) × (index < MOST_WORDS)
+IsPlainAnswer (Refused why) = Unit {0}
+
+-- an event of one of at most 8 threads, with a command and an answer as above; until collections are built there
+-- is no event of one
+abbrev pub IsPlain : Event → Type 0
+IsPlain (Did t c answer) = (t < MOST_THREADS) × IsCommand c × IsPlainAnswer answer
+IsPlain (Opened t ty first k) = (t < MOST_THREADS) × (first < MOST_PAGES) × (1 ≤ k) × (k ≤ MOST_PAGES)
+IsPlain (Collected t last passes) = ⊥
+IsPlain (Ended t) = t < MOST_THREADS

@@ -1,0 +1,20 @@
+//! Laws of the heaps that lawful histories leave.
+
+ghost use Rattle.heap_laws.specs.Laws.{HeapsAreWellFormed, HeapsAreSmall, NobodyCollects};
+
+/// Every lawful history of a valid program leaves a well-formed heap: values refer to objects that
+/// are there, objects lie apart below the fills of their pages, and no two threads share a page.
+pub fn heaps_are_well_formed()
+    ensures { HeapsAreWellFormed }
+{}
+
+/// A heap has at most 20,000 objects, since a command makes at most one. Holds until more kinds are
+/// built: all of them are conses.
+pub fn heaps_are_small()
+    ensures { HeapsAreSmall }
+{}
+
+/// Holds until collections are built: no thread of a valid program owes one.
+pub fn nobody_collects()
+    ensures { NobodyCollects }
+{}

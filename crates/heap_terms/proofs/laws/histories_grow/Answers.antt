@@ -1,5 +1,0 @@
-use Rattle.heap_terms.proofs.Appending.{Lawful-push, replay-push}
-use Rattle.heap_terms.proofs.laws.histories_grow.Goals as goal
-
-pub returns : goal.returns
-returns c = λ p h e lawful next. (Lawful-push p h e lawful next, replay-push p h e)

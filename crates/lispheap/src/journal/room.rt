@@ -1,0 +1,83 @@
+//! How many bytes the parts of a line have at most. A field has the space before it with it.
+
+/// A number.
+pub(super) const NUMBER: usize = 20;
+
+/// A number as a field.
+pub(super) const NUMBER_FIELD: usize = 1 + NUMBER;
+
+/// A number of 8 bits.
+pub(super) const SMALL_NUMBER: usize = 3;
+
+/// A cell as a field: its letter and a number of 8 bits.
+pub(super) const CELL_FIELD: usize = 1 + 1 + SMALL_NUMBER;
+
+/// A raw word: `0x` and 16 digits.
+pub(super) const WORD: usize = 2 + 16;
+
+/// A raw word as a field.
+pub(super) const WORD_FIELD: usize = 1 + WORD;
+
+/// The name of an object as a field: `#` and a number.
+pub(super) const NAME_FIELD: usize = 1 + 1 + NUMBER;
+
+/// An index: `@` and a number.
+pub(super) const INDEX: usize = 1 + NUMBER;
+
+/// An index as a field.
+pub(super) const INDEX_FIELD: usize = 1 + INDEX;
+
+/// A value as a field, the longest of which is the name of an object.
+pub(super) const VALUE_FIELD: usize = NAME_FIELD;
+
+/// A name and an index, each as a field.
+pub(super) const OBJECT: usize = NAME_FIELD + INDEX_FIELD;
+
+/// The type of a page: `unboxed`.
+pub(super) const TYPE: usize = 7;
+
+/// A type and a generation, as ` g` and a number.
+pub(super) const GENERATION: usize = TYPE + 2 + NUMBER;
+
+/// A page without its items: ` large`, a number, a name and an index behind its generation.
+pub(super) const PAGE: usize = GENERATION + 6 + NUMBER_FIELD + NAME_FIELD + INDEX;
+
+/// An item of a page: a name or a count as a field, and an index.
+pub(super) const ITEM: usize = NAME_FIELD + INDEX;
+
+/// The weakness of a table as a field: `key-and-value`.
+pub(super) const WEAKNESS_FIELD: usize = 1 + 13;
+
+/// A command as a field, the longest of which is `words` with a cell, a number and a raw word.
+pub(super) const COMMAND: usize = 6 + CELL_FIELD + NUMBER_FIELD + WORD_FIELD;
+
+/// ` -> ` before an answer.
+pub(super) const ARROW: usize = 4;
+
+/// `allocated` and ` cum` with their numbers.
+pub(super) const SIZES: usize = 9 + 4 + 2 * NUMBER_FIELD;
+
+/// An answer with its arrow and the end of its line, the longest of which has three numbers, the
+/// last behind ` num`. Answers of no bounded length reserve their own room.
+pub(super) const ANSWER_LINE: usize = ARROW + SIZES + 4 + NUMBER_FIELD + 1;
+
+/// The line of a command with its answer: the longest line of an event.
+pub(super) const EVENT_LINE: usize = NUMBER + COMMAND + ANSWER_LINE;
+
+/// The line of an opened region: a number, ` open `, a type and two numbers.
+pub(super) const OPENED_LINE: usize = NUMBER + 6 + TYPE + 2 * NUMBER_FIELD + 1;
+
+/// The line of a move: `move`, an object and where it is now.
+pub(super) const MOVE_LINE: usize = 4 + OBJECT + INDEX_FIELD + 1;
+
+/// The line of a pinned object.
+pub(super) const PIN_LINE: usize = 3 + OBJECT + 1;
+
+/// The line of a culled pair: `cull`, a name and two values.
+pub(super) const CULL_LINE: usize = 4 + NAME_FIELD + 2 * VALUE_FIELD + 1;
+
+/// The line of a broken weak pointer.
+pub(super) const BREAK_LINE: usize = 5 + NAME_FIELD + 1;
+
+/// The last line: `done` and a number.
+pub(super) const DONE_LINE: usize = 4 + NUMBER_FIELD + 1;
