@@ -1,5 +1,5 @@
 -- Fillers written one after another.
-use Rattle.std.proofs.Common.{◌≡◌, ℕ, suc, zero, ◌+◌, ◌-◌, ◌<◌, ◌≤◌, List, [], ◌∷◌, ◌++◌, length, take, drop, set, get_or, replicate, refl, sym, ◌∙◌, ap, subst, arith, drop-cons}
+use Rattle.std.proofs.Common.{◌≡◌, ℕ, suc, ◌+◌, ◌-◌, ◌<◌, ◌≤◌, List, [], ◌∷◌, ◌++◌, length, take, drop, set, replicate, sym, ◌∙◌, ap, arith, drop-cons}
 use Rattle.std.proofs.lemmas.List.{append_assoc, append-nil, take-append-drop, set-append_right, replicate-append-replicate, length-append, length-take-le, length-replicate, length-drop}
 use Rattle.heap_terms.specs.Layout.{filler_word}
 use Rattle.object_walk.specs.Fillers.{with_fillers}

@@ -1,5 +1,5 @@
 -- Where words stand for an object, the first is one with which an object of its kind and payload can begin.
-use Rattle.std.proofs.Common.{◌≡◌, ◌≢◌, ℕ, ℤ, pos, negsuc, ◌+◌, ◌-◌, ◌*◌, ◌/◌, ◌%◌, ◌^◌, ◌<◌, ◌≤◌, List, [], ◌∷◌, ◌++◌, length, map, replicate, Option, Some, None, refl, sym, ◌∙◌, ap, subst, arith, length-append}
+use Rattle.std.proofs.Common.{◌≡◌, ◌≢◌, ℕ, ℤ, pos, negsuc, ◌+◌, ◌-◌, ◌*◌, ◌%◌, ◌≤◌, List, [], ◌∷◌, ◌++◌, length, map, replicate, Option, Some, None, refl, sym, ◌∙◌, ap, arith, length-append}
 use Rattle.std.proofs.lemmas.List.{length-map, length-replicate}
 use Rattle.std.specs.Prelude.{flat_map, slice_index, IsSome}
 use Rattle.heap_terms.specs.declared.cells.Value.{Value}
@@ -7,7 +7,6 @@ use Rattle.heap_terms.specs.declared.cells.Value.TheVariants.{Fix, Nil, Unbound,
 use Rattle.heap_terms.specs.declared.kinds.Kind.{Kind}
 use Rattle.heap_terms.specs.declared.kinds.Kind.TheVariants as kinds
 use Rattle.heap_terms.specs.declared.kinds.Weakness.{Weakness}
-use Rattle.heap_terms.specs.declared.limits.TheConstants.{MOST_ELEMENTS}
 use Rattle.heap_terms.specs.Heap.{object_at}
 use Rattle.heap_terms.specs.LaidOut.{BeginsWith}
 use Rattle.heap_terms.specs.Layout.{fixnum_word, header_of, reference_word, weakness_number}

@@ -1,16 +1,16 @@
 -- Where words stand for a sound heap, the words of a page are laid out in its objects and in fillers between them.
-use Rattle.std.proofs.Common.{◌≡◌, ◌≢◌, ℕ, zero, suc, ◌+◌, ◌-◌, ◌*◌, ◌/◌, ◌%◌, ◌<◌, ◌≤◌, ◌⊎◌, inl, inr, List, [], ◌∷◌, length, get_or, Option, Some, None, refl, sym, ◌∙◌, ap, subst, arith}
+use Rattle.std.proofs.Common.{◌≡◌, ◌≢◌, ℕ, zero, suc, ◌+◌, ◌-◌, ◌*◌, ◌/◌, ◌%◌, ◌<◌, ◌≤◌, ◌⊎◌, inl, inr, List, [], ◌∷◌, Option, Some, None, refl, sym, ◌∙◌, ap, subst, arith}
 use Rattle.std.proofs.lemmas.Bool.{cases_lt}
 use Rattle.std.proofs.lemmas.Bool.Decides.{eqb_tells}
 use Rattle.std.proofs.lemmas.List.Elements.{All-nil, All-cons, All-weaker}
 use Rattle.std.proofs.lemmas.List.Kept.{AllPairs-cons}
-use Rattle.std.specs.Prelude.{slice_index, IfSome, Contains, All, AllPairs}
+use Rattle.std.specs.Prelude.{slice_index, IfSome, Contains}
 use Rattle.heap_terms.specs.Heap.{NamedHeap, object_at, entry_at}
-use Rattle.heap_terms.specs.LaidOut.{Piece, Fillers, Whole, BeginsWith, AreLaidOut, laid_words, AreOnPage, IsLaidOut, ObjectStart, object_starts, AreObjectsOn, start_of, HasObject, AreHeapsObjects}
-use Rattle.heap_terms.specs.Layout.{page_words, filler_word}
+use Rattle.heap_terms.specs.LaidOut.{Piece, Fillers, Whole, BeginsWith, AreLaidOut, laid_words, IsLaidOut, ObjectStart, object_starts, AreObjectsOn, start_of, HasObject, AreHeapsObjects}
+use Rattle.heap_terms.specs.Layout.{filler_word}
 use Rattle.heap_terms.specs.Objects.{Object, kind_of, payload_of, words_of_object}
-use Rattle.heap_terms.specs.OnPages.{IsOwned, BelongsTo}
-use Rattle.heap_terms.specs.Sound.{IsSound, IsObject}
+use Rattle.heap_terms.specs.OnPages.{IsOwned}
+use Rattle.heap_terms.specs.Sound.{IsSound}
 use Rattle.heap_terms.specs.Stands.{WordsStand, SlotsStand}
 use Rattle.object_walk.proofs.FirstWords.{first_word_stands}
 use Rattle.object_walk.proofs.Pieces.{pieces_once}
@@ -72,9 +72,9 @@ edge_behind : (a : NamedHeap) (index : ℕ) → IsSound a → IsEdge a index →
 edge_behind a index sound edge k = record {
   even = omega (arith, edge.even, words_even k.o);
   before = λ name q there below. elim (same_or_behind a sound k.name name k.o q k.there there (omega (arith, k.here, below))) [
-      | inl same ↦ omega (arith, ap (λ (x : Object). x.place + words_of_object x) same, k.here)
-      | inr behind ↦ omega (arith, behind, k.here)
-    ];
+    | inl same ↦ omega (arith, ap (λ (x : Object). x.place + words_of_object x) same, k.here)
+    | inr behind ↦ omega (arith, behind, k.here)
+  ];
 }
 
 -- where none begins at an edge, the word there and the next belong to no object, and behind them is an edge
@@ -128,13 +128,13 @@ walked_fillers : (a : NamedHeap) (words : List ℕ) (from end : ℕ) → IsSound
 walked_fillers a words from end sound edge none fillers below even rest = record {
   pieces = Fillers ∷ rest.pieces;
   laid = (
-      below,
-      (
-        fillers from (omega arith) below (not_owned a from from sound edge none (omega arith) (omega arith)),
-        fillers (from + 1) (omega arith) (omega (arith, edge.even)) (not_owned a from (from + 1) sound edge none (omega arith) (omega arith)),
-      ),
-      rest.laid,
-    );
+    below,
+    (
+      fillers from (omega arith) below (not_owned a from from sound edge none (omega arith) (omega arith)),
+      fillers (from + 1) (omega arith) (omega (arith, edge.even)) (not_owned a from (from + 1) sound edge none (omega arith) (omega arith)),
+    ),
+    rest.laid,
+  );
   objects = record {
     each = All-weaker (λ (s : ObjectStart). HasObject a s × (from + 2 ≤ s.index) × (s.index < end)) (λ (s : ObjectStart). HasObject a s × (from ≤ s.index) × (s.index < end))
         (λ s h. (h.0, omega (arith, h.1), h.2)) (object_starts (from + 2) rest.pieces) rest.objects.each;
@@ -166,13 +166,13 @@ walked_object a words from end sound stands edge k below rest =
             (All-weaker (λ (s : ObjectStart). HasObject a s × (from + words_of_object k.o ≤ s.index) × (s.index < end)) (λ (s : ObjectStart). HasObject a s × (from ≤ s.index) × (s.index < end))
             (λ s h. (h.0, omega (arith, h.1), h.2)) (object_starts (from + words_of_object k.o) rest.pieces) rest.objects.each);
         all = λ name o there low high. elim (cases_lt o.place (from + words_of_object k.o)) [
-            | inr behind ↦ contains_later (start_of o) start (object_starts (from + words_of_object k.o) rest.pieces) (rest.objects.all name o there behind high)
-            | inl within ↦ elim (same_or_behind a sound k.name name k.o o k.there there (omega (arith, k.here, within))) [
-              | inl one ↦ subst (λ (s : ObjectStart). Contains (start ∷ object_starts (from + words_of_object k.o) rest.pieces) s) (same ∙ ap start_of (sym one))
-                  (contains_first start (object_starts (from + words_of_object k.o) rest.pieces))
-              | inr before ↦ absurd (omega (arith, k.here, words_least o))
-            ]
-          ];
+          | inr behind ↦ contains_later (start_of o) start (object_starts (from + words_of_object k.o) rest.pieces) (rest.objects.all name o there behind high)
+          | inl within ↦ elim (same_or_behind a sound k.name name k.o o k.there there (omega (arith, k.here, within))) [
+            | inl one ↦ subst (λ (s : ObjectStart). Contains (start ∷ object_starts (from + words_of_object k.o) rest.pieces) s) (same ∙ ap start_of (sym one))
+                (contains_first start (object_starts (from + words_of_object k.o) rest.pieces))
+            | inr before ↦ absurd (omega (arith, k.here, words_least o))
+          ]
+        ];
         ascending = AllPairs-cons (λ (s t : ObjectStart). s.index < t.index) start (object_starts (from + words_of_object k.o) rest.pieces)
             (All-weaker (λ (s : ObjectStart). HasObject a s × (from + words_of_object k.o ≤ s.index) × (s.index < end)) (λ (s : ObjectStart). from < s.index)
             (λ s h. omega (arith, h.1, least)) (object_starts (from + words_of_object k.o) rest.pieces) rest.objects.each)

@@ -5,3 +5,4 @@ pub mod Filled
 pub mod FirstWords
 pub mod Places
 pub mod HeapWalks
+pub mod Tested

@@ -1,10 +1,10 @@
 -- A word tells the piece that it begins, so words are laid out in one way only, the one that a walk follows.
-use Rattle.std.proofs.Common.{◌≡◌, ◌≢◌, ℕ, zero, suc, ◌+◌, ◌-◌, ◌*◌, ◌/◌, ◌%◌, ◌<◌, ◌≤◌, ◌==◌, List, [], ◌∷◌, map, length, Bool, true, false, refl, sym, ◌∙◌, ap, arith}
-use Rattle.std.proofs.lemmas.Bool.{lt-ltb, ltb-false, le-ltb, ne_eqb, eq-eqb}
-use Rattle.std.specs.Prelude.{slice_index, nat_lt, if◌then◌else◌}
+use Rattle.std.proofs.Common.{◌≡◌, ◌≢◌, ℕ, zero, suc, ◌+◌, ◌-◌, ◌*◌, ◌/◌, ◌%◌, ◌<◌, ◌≤◌, ◌==◌, List, [], ◌∷◌, map, true, false, refl, sym, ◌∙◌, ap, arith}
+use Rattle.std.proofs.lemmas.Bool.{lt-ltb, le-ltb, ne_eqb, eq-eqb}
+use Rattle.std.specs.Prelude.{slice_index, nat_lt}
 use Rattle.heap_terms.specs.declared.kinds.Kind.{Kind}
 use Rattle.heap_terms.specs.declared.kinds.Kind.TheVariants as kinds
-use Rattle.heap_terms.specs.Layout.{filler_word, size_of, header_of}
+use Rattle.heap_terms.specs.Layout.{filler_word, size_of}
 use Rattle.heap_terms.specs.LaidOut.{Piece, Fillers, Whole, words_of_piece, BeginsWith, IsPieceAt, AreLaidOut, object_starts}
 use Rattle.object_walk.specs.Walks.{kind_of_byte, piece_of, pieces_within, found_left, found_at}
 

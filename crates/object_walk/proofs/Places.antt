@@ -1,18 +1,16 @@
 -- Where the objects of a sound heap lie on pages: below the words that hold pieces, and on no page's edge but a run's own.
-use Rattle.std.proofs.Common.{◌≡◌, ◌≢◌, ℕ, zero, suc, ◌+◌, ◌-◌, ◌*◌, ◌/◌, ◌%◌, ◌<◌, ◌≤◌, ◌==◌, ◌⊎◌, inl, inr, List, [], ◌∷◌, length, Bool, true, false, Option, Some, None, refl, sym, ◌∙◌, ap, subst, arith}
+use Rattle.std.proofs.Common.{◌≡◌, ◌≢◌, ℕ, ◌+◌, ◌-◌, ◌*◌, ◌/◌, ◌%◌, ◌<◌, ◌≤◌, ◌==◌, inl, inr, List, true, false, refl, sym, ◌∙◌, arith}
 use Rattle.std.proofs.lemmas.Bool.{cases_lt, cases_Bool, leb-true, leb-false, eq-eqb, ne_eqb}
-use Rattle.std.specs.Prelude.{if◌then◌else◌}
 use Rattle.heap_terms.specs.declared.kinds.Kind.{Kind}
 use Rattle.heap_terms.specs.declared.kinds.Kind.TheVariants as kinds
 use Rattle.heap_terms.specs.declared.pages.Entry.{Entry}
 use Rattle.heap_terms.specs.declared.pages.Entry.TheVariants.{Free, Used}
-use Rattle.heap_terms.specs.Heap.{NamedHeap, object_at, entry_at, fill_of}
+use Rattle.heap_terms.specs.Heap.{entry_at, fill_of}
 use Rattle.heap_terms.specs.LaidOut.{laid_words}
 use Rattle.heap_terms.specs.Layout.{page_words, size_of}
 use Rattle.heap_terms.specs.Objects.{Object, kind_of, payload_of, words_of_object}
 use Rattle.heap_terms.specs.OnPages.{IsOnPage, IsPageOfRun, IsPlaced, IsEntry}
 use Rattle.heap_terms.specs.Regions.{is_small, pages_needed}
-use Rattle.heap_terms.specs.Sound.{IsSound}
 use Rattle.object_walk.proofs.Pieces.{size_least}
 
 pub words_least : (o : Object) → 2 ≤ words_of_object o

@@ -1,10 +1,9 @@
 -- A search in what a walk finds: indices ascend, so the first object at or behind an index is the one that starts there,
 -- if one does.
-use Rattle.std.proofs.Common.{◌≡◌, ◌≢◌, ℕ, zero, suc, ◌+◌, ◌-◌, ◌*◌, ◌/◌, ◌<◌, ◌≤◌, ◌⊎◌, inl, inr, List, [], ◌∷◌, map, length, get_or, Bool, true, false, Option, Some, None, refl, sym, ◌∙◌, ap, subst, arith}
+use Rattle.std.proofs.Common.{◌≡◌, ℕ, zero, suc, ◌+◌, ◌*◌, ◌/◌, ◌≤◌, ◌⊎◌, inl, inr, List, [], ◌∷◌, map, Bool, true, false, Option, Some, None, refl, sym, ◌∙◌, ap, arith}
 use Rattle.std.proofs.lemmas.Bool.{le-leb, lt-leb, eq-eqb, eqb-true}
 use Rattle.std.specs.Prelude.{Contains, nat_le, find, if◌then◌else◌, option_map, IfSome, IsNone, ◌==◌}
 use Rattle.std.specs.Bool.{then_some}
-use Rattle.heap_terms.specs.declared.kinds.Kind.{Kind}
 use Rattle.heap_terms.specs.declared.pages.Entry.{Entry}
 use Rattle.heap_terms.specs.Layout.{page_words, size_of}
 use Rattle.heap_terms.specs.LaidOut.{Piece, Fillers, Whole, ObjectStart, object_starts, AreObjectsOn, IsLaidOut, StartsAt}

@@ -1,15 +1,15 @@
 -- One step of a walk: over a pair of fillers, or to an object.
-use Rattle.std.proofs.Common.{◌≡◌, ◌≢◌, ℕ, ◌+◌, ◌-◌, ◌*◌, ◌%◌, ◌^◌, ◌<◌, ◌≤◌, List, [], ◌∷◌, map, length, Option, Some, None, refl, sym, ◌∙◌, ap, arith}
-use Rattle.std.specs.Prelude.{slice_index, IfSome, IsNone, unwrap_or}
+use Rattle.std.proofs.Common.{◌≡◌, ◌≢◌, ℕ, ◌+◌, ◌%◌, ◌<◌, ◌≤◌, List, [], ◌∷◌, Option, Some, None, refl, sym, ◌∙◌, ap, arith}
+use Rattle.std.specs.Prelude.{slice_index, IfSome, unwrap_or}
 use Rattle.heap_terms.specs.declared.kinds.Kind.{Kind}
 use Rattle.heap_terms.specs.declared.kinds.Kind.TheVariants as kinds
 use Rattle.heap_terms.specs.declared.limits.TheConstants.{MOST_ELEMENTS}
 use Rattle.heap_terms.specs.Layout.{filler_word, size_of, header_of}
-use Rattle.heap_terms.specs.LaidOut.{Piece, Fillers, Whole, words_of_piece, BeginsWith, IsPieceAt, AreLaidOut, object_starts}
+use Rattle.heap_terms.specs.LaidOut.{Piece, Fillers, Whole, BeginsWith, AreLaidOut}
 use Rattle.lisp_words.specs.Tagged.{IsHeader}
 use Rattle.object_walk.specs.declared.found.Found.{Found}
 use Rattle.object_walk.specs.Walks.{found_left, found_at, IsWalk, IsFirstWord}
-use Rattle.object_walk.proofs.Pieces.{left_told, size_least}
+use Rattle.object_walk.proofs.Pieces.{left_told}
 
 -- the first word of an object is no filler, and the number of its words of payload is small
 pub not_filler : (kind : Kind) (n word : ℕ) → BeginsWith kind n word → word ≢ filler_word

@@ -91,7 +91,9 @@ fn laid_words(entry: Entry, page: u32) -> u32
 {
     match entry {
         Entry::Used {
-            fill, run_first, ..
+            fill,
+            run_first,
+            ..
         } if run_first == page => fill,
         Entry::Used { .. } | Entry::Free => 0,
     }

@@ -1,5 +1,5 @@
-use Rattle.std.proofs.Common.{◌≡◌, ◌-◌, ◌<◌, ◌∙◌, ap, set, length, List, ℕ, arith}
-use Rattle.object_walk.proofs.Filled.{one_filled, length_filled}
+use Rattle.std.proofs.Common.{◌<◌, ◌∙◌, ap, set, length, List, ℕ, arith}
+use Rattle.object_walk.proofs.Filled.{one_filled}
 use Rattle.object_walk.proofs.fillers.fill.Goals as goal
 
 pub loop-index-preserved : goal.loop-index-preserved

@@ -1,4 +1,4 @@
-use Rattle.std.proofs.Common.{◌-◌, ◌≡◌, length}
+use Rattle.std.proofs.Common.{◌-◌, ◌≡◌}
 use Rattle.object_walk.specs.Fillers.{with_fillers}
 use Rattle.object_walk.proofs.fillers.fill.Given as goal
 

@@ -1,8 +1,7 @@
-use Rattle.std.proofs.Common.{◌≡◌, ℕ, sym, ◌∙◌, ap, subst}
+use Rattle.std.proofs.Common.{◌≡◌, ℕ, ◌∙◌, ap}
 use Rattle.heap_terms.specs.declared.kinds.Kind.{Kind}
 use Rattle.heap_terms.specs.Layout.{size_of}
 use Rattle.object_walk.specs.declared.found.Found.{Found}
-use Rattle.object_walk.specs.Walks.{found_at}
 use Rattle.object_walk.proofs.Walked.{first_read}
 use Rattle.object_walk.proofs.found.object_at.Goals as goal
 

@@ -1,6 +1,4 @@
-use Rattle.std.proofs.Common.{◌≡◌, ◌<◌, ◌+◌, ℕ, List, ◌∷◌, sym, ◌∙◌, ap, subst, arith}
-use Rattle.heap_terms.specs.LaidOut.{BeginsWith}
-use Rattle.object_walk.specs.Walks.{found_left, found_at, IsWalk, IsFirstWord}
+use Rattle.std.proofs.Common.{sym, ◌∙◌, arith}
 use Rattle.object_walk.proofs.Walked.{IsMet, walk_skips, walk_meets, walk_ends, IsRead, object_read, first_word}
 use Rattle.object_walk.proofs.walk.first_object.Goals as goal
 
@@ -12,7 +10,7 @@ met_then c = walk_meets c.args.space.now c.loop-index.index c.args.end c.loop-in
 read_at : (c : goal.After-object_at) → IsRead c.args.space.now c.loop-index.index c.args.end c.object_at.result
 read_at c =
     let m = walk_meets c.args.space.now c.loop-index.index c.args.end c.loop-index.invariant.walk c.loop-index-test.true
-        (λ e. c.if-word-ne-FILLER_WORD.true (c.read-word.ensures ∙ e)) in
+    (λ e. c.if-word-ne-FILLER_WORD.true (c.read-word.ensures ∙ e)) in
     object_read c.args.space.now c.loop-index.index c.args.end c.read-word.result c.object_at.result m c.read-word.ensures c.object_at.ensures
 
 pub object_at-requires-clause-begins : goal.object_at-requires-clause-begins
@@ -30,7 +28,7 @@ returns-then-word-ne-FILLER_WORD-clause-small c = omega (arith, (read_at c).smal
 pub loop-index-preserved : goal.loop-index-preserved
 loop-index-preserved c =
     let s = walk_skips c.args.space.now c.loop-index.index c.args.end c.loop-index.invariant.walk c.loop-index-test.true
-        (sym c.read-word.ensures ∙ c.if-word-ne-FILLER_WORD.false) in
+    (sym c.read-word.ensures ∙ c.if-word-ne-FILLER_WORD.false) in
     record { left = c.loop-index.invariant.left ∙ s.left; walk = s.walk }
 
 pub returns-clause-left : goal.returns-clause-left

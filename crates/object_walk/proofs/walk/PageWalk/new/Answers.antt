@@ -1,8 +1,7 @@
-use Rattle.std.proofs.Common.{◌≡◌, ◌+◌, ◌*◌, ℕ, List, map, length, sym, ◌∙◌, ap, subst, arith}
+use Rattle.std.proofs.Common.{◌≡◌, ◌*◌, map, sym, ◌∙◌, ap}
 use Rattle.heap_terms.specs.declared.pages.Entry.{Entry}
-use Rattle.heap_terms.specs.LaidOut.{AreLaidOut, AreOnPage, ObjectStart, laid_words, object_starts}
-use Rattle.object_walk.specs.declared.found.Found.{Found}
-use Rattle.object_walk.specs.Walks.{found_at, found_left, IsWalk}
+use Rattle.heap_terms.specs.LaidOut.{laid_words}
+use Rattle.object_walk.specs.Walks.{found_at}
 use Rattle.object_walk.proofs.Pieces.{left_told}
 use Rattle.object_walk.proofs.walk.PageWalk.new.Goals as goal
 
