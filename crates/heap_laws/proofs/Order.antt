@@ -1,6 +1,5 @@
 -- The order of events.
 pub mod ScriptsInOrder
-pub mod PassesDetermined
 pub mod Determined
 pub mod RunsAsRelation
 pub mod OneRun

@@ -2,5 +2,4 @@
 pub mod Parts
 pub mod WordBounds
 pub mod PairLists
-pub mod Table
 pub mod Changes

@@ -58,8 +58,9 @@ pub fn order_determines()
     ensures { OrderDetermines }
 {}
 
-/// Where no collection is in it one script has one journal: two complete runs of one program by its
-/// schedule have the same events, the same lines and the same text, however many rounds they took.
+/// One script, and the orders in which its collections took their names, have one journal: two
+/// complete runs of one program by its schedule have the same events, the same lines and the same
+/// text, however many rounds they took. Where there are no collections the script alone decides.
 pub fn one_script_one_journal()
     ensures { OneScriptOneJournal }
 {}

@@ -28,6 +28,7 @@ pub mod OnPages
 pub mod Sound
 pub mod WellFormed
 pub mod Stands
+pub mod LaidOut
 pub mod PageRuns
 pub mod Fresh
 pub mod Fields

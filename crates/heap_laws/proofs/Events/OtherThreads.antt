@@ -6,6 +6,7 @@ use Rattle.std.specs.Prelude.{slice_get, if◌then◌else◌, ◌==◌}
 use Rattle.heap_terms.specs.declared.commands.Command.{Command}
 use Rattle.heap_terms.specs.declared.answers.Answer.{Answer}
 use Rattle.heap_terms.specs.declared.events.Event.{Event}
+use Rattle.heap_terms.specs.declared.events.Event.TheVariants.{Did, Opened, Collected, Ended}
 use Rattle.heap_terms.specs.declared.kinds.Kind.{Kind}
 use Rattle.heap_terms.specs.declared.kinds.PageType.{PageType}
 use Rattle.heap_terms.specs.declared.pages.Entry.{Entry}
@@ -21,7 +22,6 @@ use Rattle.heap_terms.specs.Outcomes.{outcome_of}
 use Rattle.heap_terms.specs.Regions.{Wish, Nothing, Make, wish_of, is_small, has_room, page_has_room, run_has_room, opened, committed, pages_after, with_large, IsFreeRun}
 use Rattle.heap_terms.specs.Valid.{IsValid}
 use Rattle.heap_terms.specs.WellFormed.{IsWellFormed, IsOpenRun, IsOpenRunPage}
-use Rattle.heap_laws.specs.CommandLaws.{is_collection}
 use Rattle.heap_laws.proofs.Events.Causes.{Builds, by_events}
 use Rattle.heap_laws.proofs.Events.OwnThread.{built_heap}
 use Rattle.heap_laws.proofs.WellFormed.RegionOpened.{run_cases, open_run_taken, thread_with_run}
@@ -96,6 +96,13 @@ opened_entries p a t ty first k u w run = record {
     | inr taken ↦ absurd (open_run_taken a.pages x (open_run_used p a u x w e) taken.3)
   ];
 }
+
+-- whether an event is a collection, which closes the regions of all threads
+abbrev pub is_collection : Event → Bool
+is_collection (Did t c answer) = false
+is_collection (Opened t ty first k) = false
+is_collection (Collected t last passes) = true
+is_collection (Ended t) = false
 
 -- what an event leaves of another thread: its task, and the entries of its regions
 pub record IsLeft (a b : NamedHeap) (u : ℕ) : Type 0 where

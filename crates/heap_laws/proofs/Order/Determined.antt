@@ -21,7 +21,7 @@ use Rattle.heap_terms.specs.Valid.{IsValid}
 use Rattle.heap_terms.specs.WellFormed.{IsWellFormed}
 use Rattle.heap_laws.specs.Order.{orders_of}
 use Rattle.heap_laws.proofs.Events.Tasks.{OweNothing, never_collects}
-use Rattle.heap_laws.proofs.Order.PassesDetermined.{passes_same}
+use Rattle.pass_laws.proofs.Determined.{passes_determined}
 use Rattle.heap_laws.proofs.Programs.OweNothing.{after-owes, start-owes}
 use Rattle.heap_laws.proofs.Termination.EventsLeft.{collects_is}
 use Rattle.heap_laws.proofs.WellFormed.Replayed.{after-well_formed}
@@ -110,7 +110,7 @@ collected_collected p a t last last' passes passes' one two orders =
     let same : nexts.Collect last ≡ nexts.Collect last' = sym one.0 ∙ two.0 in
     let is : last ≡ last' = cc in
     let two' : ArePasses (closed a) last 0 passes' = subst (λ (x : ℕ). ArePasses (closed a) x 0 passes') (sym is) two.1.passes in
-    (is, passes_same (closed a) last 0 passes passes' one.1.passes two' orders)
+    (is, passes_determined (closed a) last 0 passes passes' one.1.passes two' orders)
 
 -- two events of one thread that may come next are the same, where their passes took their names in the same orders
 pub one_next : (p : Program) (a : NamedHeap) (e f : Event) → IsNext p a e → IsNext p a f → thread_of e ≡ thread_of f → orders_of e ≡ orders_of f → e ≡ f

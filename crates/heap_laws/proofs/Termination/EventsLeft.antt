@@ -30,8 +30,7 @@ use Rattle.heap_laws.proofs.Ranges.ObjectCount.{event_thread, start_thread_is}
 use Rattle.heap_laws.proofs.Events.OwnThread.{moves, gcs_in, collections_in}
 use Rattle.heap_laws.proofs.Events.ScriptSteps.{script_step}
 use Rattle.heap_laws.proofs.WellFormed.RegionOpened.{run_entry, opens_run, thread_with_run}
-use Rattle.heap_laws.proofs.Events.OtherThreads.{next_same, others_left}
-use Rattle.heap_laws.specs.CommandLaws.{is_collection}
+use Rattle.heap_laws.proofs.Events.OtherThreads.{next_same, is_collection, others_left}
 use Rattle.heap_laws.proofs.WellFormed.Replayed.{after-well_formed}
 use Rattle.heap_laws.proofs.WellFormed.PagesStay.{small_needs, small_most, needs_two, needs_least}
 use Rattle.heap_laws.proofs.Lists.Sums.{sum_change, sum_le, sum_more, sum_weighted, sum_places, sum_double}

@@ -1,0 +1,3 @@
+pub mod Fillers
+pub mod Walks
+pub mod Laws
