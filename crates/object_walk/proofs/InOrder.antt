@@ -25,15 +25,15 @@ first_object a from end first others h =
       from_on = here.1;
       below = here.2;
       before = λ name o there low high. elim (contains_cases (start_of o) first others (h.all name o there low (omega (arith, here.2)))) [
-          | inl same ↦ omega (arith, ap (λ (s : ObjectStart). s.index) same, high)
-          | inr later ↦ omega (arith, All-contains (λ (s : ObjectStart). first.index < s.index) others (start_of o) higher later, high)
-        ];
+        | inl same ↦ omega (arith, ap (λ (s : ObjectStart). s.index) same, high)
+        | inr later ↦ omega (arith, All-contains (λ (s : ObjectStart). first.index < s.index) others (start_of o) higher later, high)
+      ];
       behind = record {
         each = λ k d inside. (let one = rest k d inside in (one.0, omega (arith, higher k d inside), one.2));
         all = λ name o there low high. elim (contains_cases (start_of o) first others (h.all name o there (omega (arith, low, here.1)) high)) [
-            | inl same ↦ absurd (omega (arith, ap (λ (s : ObjectStart). s.index) same, low))
-            | inr later ↦ later
-          ];
+          | inl same ↦ absurd (omega (arith, ap (λ (s : ObjectStart). s.index) same, low))
+          | inr later ↦ later
+        ];
         ascending = λ i j d lt inside. h.ascending (suc i) (suc j) d (omega arith) (omega arith);
       };
     }
