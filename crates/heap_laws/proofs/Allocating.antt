@@ -1,5 +1,7 @@
 -- For the crates above: what a commit and an opening make of a heap. The statements stand where they are proved.
 pub use Rattle.heap_laws.proofs.WellFormed.PagesStay.{size_least}
+-- the fill of a page
+pub use Rattle.heap_laws.proofs.WellFormed.ObjectAdded.{entry_fill}
 -- the page on which a small object goes, and the heap after its commit
 pub use Rattle.heap_laws.proofs.WellFormed.Committed.{HasPage, has_page, room_page, place_small, new_object, heap_with, committed-small}
 -- the pages after a run of them was opened

@@ -2,5 +2,8 @@
 pub mod Appending
 pub mod Causes
 pub mod Tasks
+pub mod Counted
+pub mod CollectedThreads
 pub mod OwnThread
+pub mod ScriptSteps
 pub mod OtherThreads

@@ -1,2 +1,3 @@
 -- Programs that a script can be read as.
 pub mod BuiltCommands
+pub mod OweNothing

@@ -2,11 +2,11 @@
 -- where they are proved.
 -- the start, each command, each event and each history
 pub use Rattle.heap_laws.proofs.WellFormed.Threads.{start-well_formed}
-pub use Rattle.heap_laws.proofs.WellFormed.Replayed.{effect-kept, after-well_formed, replay-well_formed}
+pub use Rattle.heap_laws.proofs.WellFormed.Replayed.{outcome-kept, after-well_formed, replay-well_formed}
 -- the threads at the start, the values in cells, and the pages on which regions are open
-pub use Rattle.heap_laws.proofs.WellFormed.Threads.{start_thread, open_page_used, open_run_used}
+pub use Rattle.heap_laws.proofs.WellFormed.Threads.{start_thread, start_free, open_page_used, open_run_used}
 pub use Rattle.heap_laws.proofs.WellFormed.LivingValues.{cell_living}
 pub use Rattle.heap_laws.proofs.Ranges.ObjectCount.{start_thread_is, commits_few}
 -- until more kinds are built all objects are conses
 pub use Rattle.heap_laws.proofs.Ranges.OnlyConses.{IsCons, only_conses, cons_contents}
-pub use Rattle.heap_laws.proofs.Events.Effects.{with_field-kind}
+pub use Rattle.heap_laws.proofs.Outcomes.Parts.{with_field-kind}

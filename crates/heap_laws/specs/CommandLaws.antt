@@ -1,6 +1,6 @@
 -- What a user expects of commands, over every heap and every history.
-use Rattle.std.specs.Prelude.{◌≡◌, ◌≢◌, ℕ, ◌+◌, List, [], ◌∷◌, ◌++◌, length, Option, Some, None, All, false, true, Bool, slice_get, option_map, option_and_then}
-use Rattle.std.specs.List.{filter_map, range_with_len}
+use Rattle.std.specs.Prelude.{◌≡◌, ◌≢◌, ℕ, List, length, map, Option, Some, None, All, false, true, Bool, slice_get, option_map, option_and_then}
+use Rattle.std.specs.List.{filter, filter_map, range_with_len}
 use Rattle.heap_terms.specs.declared.answers.Answer.{Answer}
 use Rattle.heap_terms.specs.declared.answers.Answer.TheVariants as answers
 use Rattle.heap_terms.specs.declared.answers.Refusal.{Refusal}
@@ -18,10 +18,11 @@ use Rattle.heap_terms.specs.Cells.{cell_value}
 use Rattle.heap_terms.specs.Heap.{NamedHeap, object_at, thread_at}
 use Rattle.heap_terms.specs.Histories.{IsNext, after, advance, Lawful, replay}
 use Rattle.heap_terms.specs.Objects.{Object, ConsOf, kind_of}
+use Rattle.heap_terms.specs.Referents.{fields_at}
 use Rattle.heap_terms.specs.Schedules.{IsRun}
-use Rattle.heap_terms.specs.Simple.{fields_at}
 use Rattle.heap_terms.specs.Text.{journal_text}
 use Rattle.heap_terms.specs.Valid.{IsValid}
+use Rattle.heap_laws.specs.Order.{orders_of}
 
 -- after a `put` that is done, whoever gets that field of that object, through whatever cell, is answered the value that
 -- was put
@@ -112,11 +113,19 @@ is_collection (Opened t ty first k) = false
 is_collection (Collected t last passes) = true
 is_collection (Ended t) = false
 
+-- the orders in which the collections of a history took their names, collection after collection
+abbrev pub orders_in : List Event → List (List (List ℕ))
+orders_in h = map orders_of (filter is_collection h)
+
 -- no collection is among these events
 abbrev pub HasNoCollection : List Event → Type 0
 HasNoCollection h = All (λ e. is_collection e ≡ false) h
 
--- where no collection is in it one script has one history, and so one journal
+-- one script and the orders in which its collections took their names have one history, and so one journal; where there
+-- are no collections the script alone has one
 abbrev pub OneScriptOneJournal : Type 0
-OneScriptOneJournal = (p : Program) (lines more : List ReplayLine) (h g : List Event) → IsRun p lines h → IsRun p more g →
-    HasNoCollection h → HasNoCollection g → (h ≡ g) × (lines ≡ more) × (journal_text h ≡ journal_text g)
+OneScriptOneJournal =
+    ((p : Program) (lines more : List ReplayLine) (h g : List Event) → IsRun p lines h → IsRun p more g → orders_in h ≡ orders_in g →
+    (h ≡ g) × (lines ≡ more) × (journal_text h ≡ journal_text g))
+    × ((p : Program) (lines more : List ReplayLine) (h g : List Event) → IsRun p lines h → IsRun p more g → HasNoCollection h → HasNoCollection g →
+    (h ≡ g) × (lines ≡ more) × (journal_text h ≡ journal_text g))

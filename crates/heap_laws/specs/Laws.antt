@@ -8,9 +8,9 @@ use Rattle.heap_terms.specs.declared.limits.TheConstants.{MOST_COMMANDS}
 use Rattle.heap_terms.specs.Complete.{IsComplete}
 use Rattle.heap_terms.specs.Heap.{NamedHeap, object_at, thread_at}
 use Rattle.heap_terms.specs.Histories.{IsNext, after, next, Lawful, LawfulFrom, replay, replay_from, thread_of, script_of}
-use Rattle.heap_laws.specs.Remaining.{all_left, most_events}
+use Rattle.heap_laws.specs.Remaining.{all_left, events_at_most, most_events}
 use Rattle.heap_terms.specs.Objects.{kind_of}
-use Rattle.heap_laws.specs.Order.{commands_of, events_of, EndsOnce}
+use Rattle.heap_laws.specs.Order.{commands_of, events_of, EndsOnce, orders_of}
 use Rattle.heap_laws.specs.Plain.{IsPlain}
 use Rattle.heap_laws.specs.HeapRuns.{IsRunOf}
 use Rattle.heap_terms.specs.Valid.{IsValid}
@@ -35,18 +35,24 @@ HeapsAreSmall = (p : Program) (h : List Event) → IsValid p → Lawful p h →
 abbrev pub NobodyCollects : Type 0
 NobodyCollects = (p : Program) (h : List Event) (t last : ℕ) → IsValid p → Lawful p h → ¬ (next p (replay p h) t ≡ nexts.Collect last)
 
--- with each event there is less left, so that every history ends; until collections are built it has at most 40,016
--- events
+-- with each event, collections too, there is less left, so that every history ends: it has at most so many events as follow
+-- from its program, and never more than 41,168
 abbrev pub HistoriesEnd : Type 0
 HistoriesEnd =
     ((p : Program) (h : List Event) (e : Event) → IsValid p → Lawful p h → IsNext p (replay p h) e →
     all_left p (after p (replay p h) e) + 1 ≤ all_left p (replay p h))
-    × ((p : Program) (h : List Event) → IsValid p → Lawful p h → length h ≤ most_events)
+    × ((p : Program) (h : List Event) → IsValid p → Lawful p h → length h ≤ events_at_most p)
+    × ((p : Program) → IsValid p → events_at_most p ≤ most_events)
 
--- until collections are built a thread that has not ended has an event that may come next
+-- until collections are built each thread that has not ended has an event that may come next
 abbrev pub ThreadsGoOn : Type 0
 ThreadsGoOn = (p : Program) (h : List Event) (t : ℕ) → IsValid p → Lawful p h → (thread_at (replay p h) t).ended ≡ false →
     (e : Event) × (thread_of e ≡ t) × IsNext p (replay p h) e
+
+-- while some thread has not ended some event may come next, collections or not
+abbrev pub HistoriesGoOn : Type 0
+HistoriesGoOn = (p : Program) (h : List Event) (t : ℕ) → IsValid p → Lawful p h → (thread_at (replay p h) t).ended ≡ false →
+    (e : Event) × IsNext p (replay p h) e
 
 -- so that every history is the beginning of a complete one
 abbrev pub HistoriesComplete : Type 0
@@ -67,9 +73,10 @@ ScriptsAreDone = (p : Program) (h : List Event) (t : ℕ) → IsValid p → IsCo
 abbrev pub EventsArePlain : Type 0
 EventsArePlain = (p : Program) (h : List Event) → IsValid p → Lawful p h → All IsPlain h
 
--- until collections are built what a thread may do next is one event, so that the order of the threads determines a
--- history
+-- What a thread may do next is one event, but for the orders in which a collection takes its names: so the order of the
+-- threads and those orders determine a history; and until collections are built the order of the threads does.
 abbrev pub OrderDetermines : Type 0
 OrderDetermines =
-    ((p : Program) (a : NamedHeap) (e f : Event) → IsNext p a e → IsNext p a f → thread_of e ≡ thread_of f → e ≡ f)
-    × ((p : Program) (h g : List Event) → Lawful p h → Lawful p g → map thread_of h ≡ map thread_of g → h ≡ g)
+    ((p : Program) (a : NamedHeap) (e f : Event) → IsNext p a e → IsNext p a f → thread_of e ≡ thread_of f → orders_of e ≡ orders_of f → e ≡ f)
+    × ((p : Program) (h g : List Event) → Lawful p h → Lawful p g → map thread_of h ≡ map thread_of g → map orders_of h ≡ map orders_of g → h ≡ g)
+    × ((p : Program) (h g : List Event) → IsValid p → Lawful p h → Lawful p g → map thread_of h ≡ map thread_of g → h ≡ g)

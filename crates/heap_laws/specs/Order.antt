@@ -1,10 +1,11 @@
 -- The events of one thread in a history.
-use Rattle.std.specs.Prelude.{◌≡◌, ℕ, List, [], ◌∷◌, ◌++◌, Option, Some, None, Bool, true, false, ◌==◌}
+use Rattle.std.specs.Prelude.{◌≡◌, ℕ, List, [], ◌∷◌, ◌++◌, map, Option, Some, None, Bool, true, false, ◌==◌}
 use Rattle.std.specs.List.{filter, filter_map}
 use Rattle.heap_terms.specs.declared.commands.Command.{Command}
 use Rattle.heap_terms.specs.declared.events.Event.{Event}
 use Rattle.heap_terms.specs.declared.events.Event.TheVariants.{Did, Opened, Collected, Ended}
 use Rattle.heap_terms.specs.Histories.{thread_of}
+use Rattle.heap_terms.specs.Passes.{order_of}
 
 -- the events of thread t, in their order
 abbrev pub events_of : ℕ → List Event → List Event
@@ -31,3 +32,10 @@ is_end (Ended t) = true
 -- the last event is the end of thread t, and no other event is an end
 abbrev pub EndsOnce : ℕ → List Event → Type 0
 EndsOnce t events = (front : List Event) × (events ≡ front ++ Ended t ∷ []) × (filter is_end front ≡ [])
+
+-- the orders in which the passes of a collection took their names; other events have none
+abbrev pub orders_of : Event → List (List ℕ)
+orders_of (Did t c answer) = []
+orders_of (Opened t ty first k) = []
+orders_of (Collected t last passes) = map order_of passes
+orders_of (Ended t) = []

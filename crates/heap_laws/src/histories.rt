@@ -1,7 +1,7 @@
 //! Laws of lawful histories.
 
 ghost use Rattle.heap_laws.specs.CommandLaws.{OneScriptOneJournal};
-ghost use Rattle.heap_laws.specs.Laws.{HistoriesGrow, HistoriesEnd, ThreadsGoOn, HistoriesComplete, RunsAreLawful, ScriptsAreDone, EventsArePlain, OrderDetermines};
+ghost use Rattle.heap_laws.specs.Laws.{HistoriesGrow, HistoriesEnd, ThreadsGoOn, HistoriesGoOn, HistoriesComplete, RunsAreLawful, ScriptsAreDone, EventsArePlain, OrderDetermines};
 
 /// An event that may come next makes a lawful history one longer, and the heap at its end is the
 /// one after that event.
@@ -9,17 +9,23 @@ pub fn histories_grow()
     ensures { HistoriesGrow }
 {}
 
-/// Each event leaves fewer to come, and so every history ends. Holds until collections are built:
-/// none of a valid program has more than 40,016 events, two for each command and two for each thread.
+/// Each event leaves fewer to come, a collection too: a history has at most two events for each
+/// command and each thread, and nine for each collection. No history of a valid program has more
+/// than 41,168.
 pub fn histories_end()
     ensures { HistoriesEnd }
 {}
 
-/// Holds until collections are built: a thread of a valid program that has not ended has an event
-/// that may come next, whatever was done before. (A thread that owes a collection cannot go on
-/// while another inhibits it.)
+/// A thread of a valid program that has not ended has an event that may come next, whatever was
+/// done before. That is so until collections are built.
 pub fn threads_go_on()
     ensures { ThreadsGoOn }
+{}
+
+/// While some thread has not ended, some event may come next: a collection that is due waits for
+/// threads that inhibit, and those go on.
+pub fn histories_go_on()
+    ensures { HistoriesGoOn }
 {}
 
 /// Every lawful history of a valid program can be completed.
@@ -45,14 +51,16 @@ pub fn events_are_plain()
     ensures { EventsArePlain }
 {}
 
-/// Holds until collections are built: what a thread may do next is one event, so two histories with
-/// the same threads in the same order are the same. (A collection may move objects in any order.)
+/// What a thread may do next is one event, but for the orders in which a collection takes its
+/// names: two histories with the same threads in the same order, and the same such orders, are the
+/// same. Until collections are built the order of the threads is enough.
 pub fn order_determines()
     ensures { OrderDetermines }
 {}
 
-/// Where no collection is in it one script has one journal: two complete runs of one program by its
-/// schedule have the same events, the same lines and the same text, however many rounds they took.
+/// One script, and the orders in which its collections took their names, have one journal: two
+/// complete runs of one program by its schedule have the same events, the same lines and the same
+/// text, however many rounds they took. Where there are no collections the script alone decides.
 pub fn one_script_one_journal()
     ensures { OneScriptOneJournal }
 {}

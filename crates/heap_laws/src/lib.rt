@@ -1,7 +1,6 @@
 //! Laws of the definitions of `heap_terms`: what a reader may rely on beside the definitions
 //! themselves. Each is the contract of a function that does nothing: that it is accepted says that
-//! the law holds, of every program and every history. The crates above name its lemmas through
-//! `specs/` alone.
+//! the law holds, of every program and every history.
 #![tactic(auto)]
 
 pub mod equality;

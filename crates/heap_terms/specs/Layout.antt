@@ -1,5 +1,6 @@
--- The layout of objects in words of 64 bits. Tagging a pointer in its low four bits, and the cons without
--- a header, are SBCL's; the numbers here are this project's own.
+-- The layout of objects in words of 64 bits. As in SBCL: a pointer is tagged in its low four bits with 3, 7, 11 or 15, a
+-- fixnum is twice its number, a cons is two words without a header, and a header has a byte for its kind below the
+-- length. This project's own are the kind bytes, the words for NIL, unbound and filler, and the sizes. Nothing is left free.
 use Rattle.std.specs.Prelude.{ℕ, ℤ, pos, negsuc, ◌+◌, ◌-◌, ◌*◌, ◌/◌, ◌^◌}
 use Rattle.heap_terms.specs.declared.kinds.Kind.{Kind}
 use Rattle.heap_terms.specs.declared.kinds.Kind.TheVariants as kinds

@@ -1,7 +1,7 @@
 -- Live names in a pass over generation g: the least set of names that is closed under what roots and objects keep.
 -- The rules of weak tables are those of SBCL's manual; weak pointers and finalizers keep nothing, as there. Nothing
 -- is left free: there is one least set. A set of names is a test.
-use Rattle.std.specs.Prelude.{◌≡◌, ◌≢◌, ℕ, List, Option, Some, Bool, true, slice_index_or}
+use Rattle.std.specs.Prelude.{◌≡◌, ◌≢◌, ℕ, List, Some, Bool, true, slice_index_or}
 use Rattle.heap_terms.specs.declared.cells.Value.{Value}
 use Rattle.heap_terms.specs.declared.cells.Value.TheVariants as values
 use Rattle.heap_terms.specs.declared.kinds.Weakness.{Weakness}

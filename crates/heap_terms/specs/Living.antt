@@ -1,7 +1,7 @@
 -- Values and contents as they may stand in a heap: values are living, and an object has the shape of its kind. All ranges
 -- are this project's own; that a broken weak pointer holds something else than a value is SBCL's. Left free is which
 -- values and words they are.
-use Rattle.std.specs.Prelude.{◌≡◌, ◌≢◌, ℕ, ◌^◌, ◌<◌, ◌≤◌, List, AllPairs, length, map, Option, IsSome, slice_index_or}
+use Rattle.std.specs.Prelude.{◌≢◌, ℕ, ◌^◌, ◌<◌, ◌≤◌, List, AllPairs, length, map, Option, IsSome, slice_index_or}
 use Rattle.heap_terms.specs.declared.limits.TheConstants.{MOST_ELEMENTS, MOST_PAIRS}
 use Rattle.heap_terms.specs.declared.cells.Value.{Value}
 use Rattle.heap_terms.specs.declared.cells.Value.TheVariants.{Fix, Nil, Unbound, Ref}

@@ -1,7 +1,7 @@
 -- Where objects lie, and what pages say of themselves: an object lies below the fill of pages of its type and generation,
 -- two share no word, and the pages of a run say the same of it. The layout is this project's own. Left free is which
 -- page or run an object lies on.
-use Rattle.std.specs.Prelude.{◌≡◌, ◌≢◌, ℕ, ◌+◌, ◌*◌, ◌/◌, ◌%◌, ◌<◌, ◌≤◌, ◌⊎◌, List, length, Option, Some, true, false}
+use Rattle.std.specs.Prelude.{◌≡◌, ℕ, ◌+◌, ◌*◌, ◌/◌, ◌%◌, ◌<◌, ◌≤◌, ◌⊎◌, List, length, Option, Some, true, false}
 use Rattle.heap_terms.specs.declared.limits.TheConstants.{OLDEST_GENERATION}
 use Rattle.heap_terms.specs.declared.kinds.PageType.{PageType}
 use Rattle.heap_terms.specs.declared.pages.Entry.{Entry}

@@ -1,7 +1,7 @@
 -- What `page` shows of a page: what lies below its fill, by index, as objects and as the gaps between them. The view
 -- is this project's own. Nothing is left free: each object that begins on the page is one item, and each maximal run
 -- of its words that belong to no object is one.
-use Rattle.std.specs.Prelude.{ℕ, ◌+◌, ◌-◌, ◌*◌, ◌==◌, ◌&&◌, ◌||◌, not, List, [], ◌∷◌, length, take_while, flat_map, find, Option, Some, None, Bool, true, false, is_none, if◌then◌else◌, nat_le, nat_lt}
+use Rattle.std.specs.Prelude.{ℕ, ◌+◌, ◌-◌, ◌*◌, ◌==◌, ◌&&◌, ◌||◌, not, List, [], ◌∷◌, length, take_while, flat_map, find, Option, Some, None, Bool, false, is_none, if◌then◌else◌, nat_le, nat_lt}
 use Rattle.std.specs.List.{range_with_len}
 use Rattle.heap_terms.specs.declared.answers.Item.{Item}
 use Rattle.heap_terms.specs.declared.answers.PageView.{PageView}

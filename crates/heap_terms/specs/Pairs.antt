@@ -1,7 +1,7 @@
 -- The pairs of a table: a list in which each key stands at most once, in the order in which the keys were added.
 -- That keys are compared by identity is as in SBCL's EQ tables; here identity is equality of values. Nothing is left
 -- free.
-use Rattle.std.specs.Prelude.{ℕ, List, [], ◌∷◌, Option, Some, None, Bool, true, false, not, nat_eq, if◌then◌else◌, filter}
+use Rattle.std.specs.Prelude.{List, [], ◌∷◌, Option, Some, None, Bool, true, false, not, nat_eq, if◌then◌else◌, filter}
 use Rattle.std.specs.Ordering.{int_eq}
 use Rattle.std.specs.List.{list_any}
 use Rattle.heap_terms.specs.declared.cells.Value.{Value}

@@ -1,7 +1,7 @@
 -- One pass of a collection: what its record may say, and the heap after it. That a pass copies what is live and leaves
 -- what is pinned in its place is SBCL's; the order in which a record lists things, and what becomes of pages, are this
 -- project's own. The order of the moves is left free; everything else follows from the heap and that order.
-use Rattle.std.specs.Prelude.{◌≡◌, ℕ, ◌+◌, ◌/◌, ◌<◌, ◌==◌, ◌&&◌, ◌||◌, not, List, [], ◌∷◌, ◌++◌, map, filter, length, count_by, AllPairs, All, ◌≢◌, Option, Some, None, Bool, true, false, unwrap_or, is_none, if◌then◌else◌, slice_index_or}
+use Rattle.std.specs.Prelude.{◌≡◌, ℕ, ◌/◌, ◌<◌, ◌==◌, ◌&&◌, ◌||◌, not, List, [], ◌∷◌, ◌++◌, map, filter, length, count_by, AllPairs, All, ◌≢◌, Option, Some, None, Bool, true, false, unwrap_or, is_none, if◌then◌else◌}
 use Rattle.std.specs.List.{list_any, range_with_len}
 use Rattle.heap_terms.specs.declared.events.PassRecord.{PassRecord}
 use Rattle.heap_terms.specs.declared.events.PinAt.{PinAt}

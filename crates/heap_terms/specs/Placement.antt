@@ -1,7 +1,7 @@
 -- Where the objects go that a pass moves, in a given order. That a pass copies is SBCL's; where it copies to, and that an
 -- object which finds no place stays, is this project's own. The order is the collector's free choice; given it, nothing
 -- else is left free.
-use Rattle.std.specs.Prelude.{◌≡◌, ℕ, ◌+◌, ◌-◌, ◌*◌, ◌/◌, ◌%◌, ◌&&◌, List, [], ◌∷◌, ◌++◌, length, take, drop, replicate, find, Option, Some, None, option_map, Bool, false, if◌then◌else◌, nat_le, slice_set}
+use Rattle.std.specs.Prelude.{ℕ, ◌+◌, ◌-◌, ◌*◌, ◌/◌, ◌%◌, ◌&&◌, List, [], ◌∷◌, ◌++◌, length, take, drop, replicate, find, Option, Some, None, option_map, Bool, false, if◌then◌else◌, nat_le, slice_set}
 use Rattle.std.specs.List.{list_all, range_with_len}
 use Rattle.heap_terms.specs.declared.events.Placing.{Placing}
 use Rattle.heap_terms.specs.declared.kinds.PageType.{PageType}

@@ -106,7 +106,7 @@ with_destination a t None v = a
 with_destination a t (Some d) v = with_cell a t d v
 
 -- What the new object holds at first; its cells are read before the destination changes. A command that allocates
--- nothing is never asked: no word stands for that.
+-- nothing is never asked, and its row is an object of no words.
 abbrev pub initial_contents : NamedHeap → ℕ → Command → Contents
 initial_contents a t (commands.NewCons d x y) = ConsOf (cell_value a t x) (cell_value a t y)
 initial_contents a t (commands.NewVector d n) = VectorOf (replicate n zero_value)

@@ -1,6 +1,6 @@
 -- The slots of an object: what each of its words says, a slot for each word, in their order. So what holds of the words
 -- of every kind of object is said of slot i. The layouts are this project's own.
-use Rattle.std.specs.Prelude.{ℕ, List, [], ◌∷◌, ◌++◌, map, length, replicate, flat_map, Option, Some, None, ◌+◌, ◌-◌, ◌*◌, pos, slice_get}
+use Rattle.std.specs.Prelude.{ℕ, List, [], ◌∷◌, ◌++◌, map, length, replicate, flat_map, Option, ◌+◌, ◌-◌, ◌*◌, pos, slice_get}
 use Rattle.heap_terms.specs.declared.cells.Value.{Value}
 use Rattle.heap_terms.specs.declared.cells.Value.TheVariants.{Unbound}
 use Rattle.heap_terms.specs.declared.kinds.Kind.{Kind}

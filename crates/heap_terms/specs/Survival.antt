@@ -1,7 +1,7 @@
 -- What a pass leaves of an object and of the finalizers, given which names are live: the pairs that a table keeps, that
 -- a weak pointer to a dead name becomes broken, and that a dead object's finalizers are queued. These rules are those of
 -- SBCL's manual; the order of what remains and of the queue is this project's own. Nothing is left free.
-use Rattle.std.specs.Prelude.{ℕ, ◌&&◌, ◌||◌, not, List, [], ◌∷◌, map, filter, flat_map, Option, Some, None, Bool, true, false, if◌then◌else◌}
+use Rattle.std.specs.Prelude.{ℕ, ◌&&◌, ◌||◌, not, List, [], map, filter, flat_map, Option, Some, None, Bool, true, false, if◌then◌else◌}
 use Rattle.heap_terms.specs.declared.cells.Value.{Value}
 use Rattle.heap_terms.specs.declared.cells.Value.TheVariants as values
 use Rattle.heap_terms.specs.declared.events.Cull.{Cull}

@@ -4,8 +4,9 @@ use Rattle.std.proofs.lemmas.List.{get_or_push, get_or_append_left}
 use Rattle.std.specs.Prelude.{slice_index}
 use Rattle.heap_terms.specs.declared.cells.Value.{Value}
 use Rattle.heap_terms.specs.declared.programs.Program.{Program}
-use Rattle.heap_terms.specs.Heap.{NamedHeap, object_at}
-use Rattle.heap_terms.specs.Layout.{page_words}
+use Rattle.heap_terms.specs.Heap.{NamedHeap, object_at, entry_at, fill_of}
+use Rattle.heap_terms.specs.Layout.{page_words, filler_word}
+use Rattle.heap_terms.specs.OnPages.{BelongsTo, IsOwned}
 use Rattle.heap_terms.specs.Objects.{Object, ConsOf, words_of_object}
 use Rattle.heap_terms.specs.Stands.{WordsStand, SlotsStand, KeptStand}
 use Rattle.heap_terms.specs.WellFormed.{IsWellFormed, IsLiving, AreApart, IsPlaced}
@@ -14,7 +15,7 @@ use Rattle.heap_laws.proofs.AtPlaces.{IfSome-at, IfSome-from, IsSome-from, push_
 use Rattle.lisp_heap.specs.Standing.{LabelsStand}
 use Rattle.lisp_heap.proofs.ObjectLemmas.{word_of-push, name_below}
 use Rattle.lisp_heap.proofs.PutLemmas.{apart_at, placed_at}
-use Rattle.lisp_heap.proofs.WordLemmas.{AreConses, cons_words, cons_at, cons_spelled, nothing_kept, no_fillers, outside}
+use Rattle.lisp_heap.proofs.WordLemmas.{AreConses, cons_words, cons_at, cons_spelled, nothing_kept, outside}
 
 -- the values in each object are living
 abbrev pub HoldLiving : List (Option Object) → Type 0
@@ -24,7 +25,8 @@ HoldLiving objects = (name : ℕ) (o : Object) (p q : Value) → object_at objec
 module _ (p : Program) (a b : NamedHeap) (words : List ℕ) (o : Object) (P Q : Value)
     (conses : AreConses a.objects) (hold : HoldLiving a.objects) (s : WordsStand a words)
     (is : o.contents ≡ ConsOf P Q) (live_P : IsLiving a.objects P) (live_Q : IsLiving a.objects Q)
-    (pushed : b.objects ≡ a.objects ++ Some o ∷ []) (paged : length b.pages ≡ length a.pages) (wf : IsWellFormed p b) where
+    (pushed : b.objects ≡ a.objects ++ Some o ∷ []) (paged : length b.pages ≡ length a.pages) (wf : IsWellFormed p b)
+    (filled : (page i : ℕ) → i < fill_of (entry_at b.pages page) → (i < fill_of (entry_at a.pages page)) ⊎ BelongsTo (page_words * page + i) o) where
   abbrev committed_words : List ℕ
   committed_words = set (set words o.place (word_of a.objects P)) (o.place + 1) (word_of a.objects Q)
 
@@ -93,6 +95,26 @@ module _ (p : Program) (a b : NamedHeap) (words : List ℕ) (o : Object) (P Q : 
         | inr new_here ↦ (let found : Some q ≡ Some o = sym there ∙ new_here.1 in let same : q ≡ o = cc in subst P (sym same) new)
       ]
 
+  -- what belongs to an object belongs to it after the commit
+  owned_still : (index : ℕ) → IsOwned a.objects index → IsOwned b.objects index
+  owned_still index h = (h.0, h.1, old_there h.0 h.1 h.2, h.3)
+
+  -- the new words below a fill are the new object's, so that fillers are as they were
+  fillers_kept : (page i : ℕ) → i < fill_of (entry_at b.pages page) → ¬ IsOwned b.objects (page_words * page + i) →
+      slice_index committed_words (page_words * page + i) ≡ filler_word
+  fillers_kept page i l none =
+      let index = page_words * page + i in
+      let not_own : BelongsTo index o → ⊥ = λ own. none (length a.objects, o, new_there, own) in
+      let not_first : index ≢ o.place = λ e. not_own (record { from = omega (arith, e); below = omega (arith, e, two_words) }) in
+      let not_second : index ≢ o.place + 1 = λ e. not_own (record { from = omega (arith, e); below = omega (arith, e, two_words) }) in
+      let kept : slice_index committed_words index ≡ slice_index words index =
+      get_or-set_other (set words o.place (word_of a.objects P)) (o.place + 1) index (word_of a.objects Q) 0 not_second
+      ∙ get_or-set_other words o.place index (word_of a.objects P) 0 not_first in
+      elim (filled page i l) [
+        | inl before ↦ kept ∙ s.fillers page i before (λ owned. none (owned_still index owned))
+        | inr own ↦ absurd (not_own own)
+      ]
+
   pub WordsStand-commit : WordsStand b committed_words
   WordsStand-commit = record {
     long = length-set (set words o.place (word_of a.objects P)) (o.place + 1) (word_of a.objects Q)
@@ -102,7 +124,7 @@ module _ (p : Program) (a b : NamedHeap) (words : List ℕ) (o : Object) (P Q : 
     kept = λ name. IfSome-from (λ (q : Object). KeptStand committed_words q.place q.contents) (object_at b.objects name)
         (by_name (λ (q : Object). KeptStand committed_words q.place q.contents) (nothing_kept committed_words o.place o.contents P Q is)
         (λ name q h. let parts = conses name q h in nothing_kept committed_words q.place q.contents (parts.0) (parts.1) (parts.2)) name);
-    fillers = no_fillers p b committed_words wf;
+    fillers = fillers_kept;
   }
 
   pub LabelsStand-commit : (labels : List ℕ) → LabelsStand a labels → LabelsStand b (set labels (o.place / 2) (length a.objects))

@@ -8,11 +8,15 @@ use Rattle.heap_terms.specs.declared.cells.Value.TheVariants.{Fix, Nil, Unbound,
 use Rattle.heap_terms.specs.Heap.{object_at}
 use Rattle.heap_terms.specs.Layout.{reference_word}
 use Rattle.heap_terms.specs.Objects.{Object}
-use Rattle.heap_terms.specs.Simple.{with_field_at, object_with_field}
+use Rattle.heap_terms.specs.Referents.{refilled, with_field, with_field_at}
 use Rattle.heap_terms.specs.WellFormed.{IsLiving}
 use Rattle.heap_terms.specs.Spelling.{word_of, word_of_object}
 use Rattle.heap_laws.proofs.AtPlaces.{set_cases, IsSome-value}
 use Rattle.heap_laws.proofs.SoundHeaps.{with_field-kind}
+
+-- an object in which one field changed; one that is gone stays gone
+abbrev pub object_with_field : Option Object → ℕ → Value → Option Object
+object_with_field o i v = refilled o (λ k. with_field k i v)
 
 -- an object whose field changed has the same reference
 word_of_object-with_field : (o : Option Object) (i : ℕ) (w : Value) → word_of_object (object_with_field o i w) ≡ word_of_object o

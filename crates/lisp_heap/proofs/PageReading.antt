@@ -7,6 +7,7 @@ use Rattle.heap_terms.specs.declared.pages.Entry.{Entry}
 use Rattle.heap_terms.specs.Heap.{NamedHeap, thread_at, open_page, entry_at, fill_of}
 use Rattle.heap_terms.specs.WellFormed.{IsOpenRun}
 use Rattle.heap_laws.proofs.SoundHeaps.{open_run_used}
+use Rattle.heap_laws.proofs.Allocating.{entry_fill}
 use Rattle.lisp_heap.specs.Sound.{IsSound, view_of}
 use Rattle.lisp_heap.specs.State.{state_of, state_page}
 use Rattle.lisp_heap.specs.View.{View, heap_of}
@@ -47,7 +48,7 @@ run_in s w h e t state is =
 pub entry_most : (s : Inside) → IsSound s → (page : ℕ) (entry : Entry) → entry ≡ entry_at s.pages page → fill_of entry ≤ 512
 entry_most s h page entry is =
     let same : fill_of entry ≡ fill_of (entry_at (heap s).pages page) = ap fill_of (is ∙ ap (λ (ps : List Entry). entry_at ps page) h.holds.pages) in
-    omega (arith, same, ((well_formed s h).fills page).most)
+    omega (arith, same, (entry_fill (entry_at (heap s).pages page) ((well_formed s h).sound.entries page)).most)
 
 -- the state that was read is that of the thread of the view
 pub state_seen : (s : Inside) (w : View) → IsSound s → view_of s ≡ w → (t : ℕ) (state : ThreadState) → t < length s.states → state ≡ get_or s.states t state →

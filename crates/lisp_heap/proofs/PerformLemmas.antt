@@ -7,7 +7,7 @@ use Rattle.heap_terms.specs.declared.programs.Program.{Program}
 use Rattle.heap_terms.specs.Cells.{with_cell}
 use Rattle.heap_terms.specs.Heap.{NamedHeap, Thread, thread_at, with_thread, object_at, zero_value}
 use Rattle.heap_terms.specs.Objects.{Object}
-use Rattle.heap_terms.specs.Simple.{with_field_at, object_with_field, with_field}
+use Rattle.heap_terms.specs.Referents.{with_field_at, with_field}
 use Rattle.heap_terms.specs.Stands.{WordsStand}
 use Rattle.heap_terms.specs.WellFormed.{IsWellFormed}
 use Rattle.heap_terms.specs.Spelling.{word_of}
@@ -21,7 +21,7 @@ use Rattle.lisp_heap.specs.declared.plan.Change.{Change}
 use Rattle.lisp_heap.specs.declared.plan.Change.TheVariants as changes
 use Rattle.lisp_heap.specs.declared.states.ThreadState.{ThreadState}
 use Rattle.lisp_heap.proofs.CellLemmas.{CellsStand-with_thread, CellsStand-with_cell, CellsStand-objects}
-use Rattle.lisp_heap.proofs.ObjectLemmas.{word_of-with_field_at}
+use Rattle.lisp_heap.proofs.ObjectLemmas.{object_with_field, word_of-with_field_at}
 use Rattle.lisp_heap.proofs.PutLemmas.{WordsStand-put}
 use Rattle.lisp_heap.proofs.Unchanged.{WordsStand-same, LabelsStand-same, with_cell-objects, with_cell-pages, with_cell-states, states_set}
 use Rattle.lisp_heap.proofs.WordLemmas.{AreConses}
@@ -70,9 +70,8 @@ Holds-change p a new v t (changes.InCell cell word) wf wf_new conses ht holds ma
     })
 Holds-change p a new v t (changes.InSpace index word) wf wf_new conses ht holds makes =
     let b : NamedHeap = record a { objects = with_field_at a.objects (values.Ref makes.name) makes.i makes.value } in
-    let wf_b : IsWellFormed p b = subst (λ (k : NamedHeap). IsWellFormed p k) makes.effect wf_new in
     let written : WordsStand b (set v.words (makes.object.place + makes.i) (word_of a.objects makes.value)) =
-    WordsStand-put p a v.words makes.name makes.i makes.object makes.first makes.second makes.value wf conses holds.words makes.there makes.cons makes.low wf_b in
+    WordsStand-put p a v.words makes.name makes.i makes.object makes.first makes.second makes.value wf conses holds.words makes.there makes.cons makes.low in
     let words_now : WordsStand b (set v.words index word) =
     subst (λ (k : ℕ). WordsStand b (set v.words k word)) (sym makes.at_index)
     (subst (λ (w : ℕ). WordsStand b (set v.words (makes.object.place + makes.i) w)) (sym makes.word_is) written) in

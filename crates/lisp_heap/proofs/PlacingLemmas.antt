@@ -1,5 +1,5 @@
 -- A cons is committed.
-use Rattle.std.proofs.Common.{◌≡◌, ◌≢◌, ℕ, ◌+◌, ◌*◌, ◌/◌, ◌%◌, ◌<◌, ◌≤◌, ◌^◌, List, [], ◌∷◌, ◌++◌, length, map, subst, ap, ap₂, ◌∙◌, sym, refl, arith, Option, Some, None, option_map, get_or, set, length-set, length-append, get_or-set_same, get_or-set_other, false}
+use Rattle.std.proofs.Common.{◌≡◌, ◌≢◌, ℕ, ◌+◌, ◌*◌, ◌/◌, ◌%◌, ◌<◌, ◌≤◌, ◌^◌, List, [], ◌∷◌, ◌++◌, length, map, subst, ap, ap₂, ◌∙◌, sym, refl, arith, Option, Some, None, option_map, get_or, set, length-set, length-append, get_or-set_same, get_or-set_other, false, ◌⊎◌, inl, inr}
 use Rattle.heap_terms.specs.declared.answers.Answer.{Answer}
 use Rattle.heap_terms.specs.declared.answers.Answer.TheVariants as answers
 use Rattle.heap_terms.specs.declared.cells.Cell.{Cell}
@@ -28,7 +28,10 @@ use Rattle.heap_terms.specs.Spelling.{word_of, word_of_object}
 use Rattle.heap_laws.proofs.SoundHeaps.{commits_few, after-well_formed, open_run_used}
 use Rattle.heap_laws.proofs.Allocating.{HasPage, has_page, place_small, committed-small, new_object, heap_with}
 use Rattle.heap_laws.proofs.ValidScripts.{script_command}
+use Rattle.std.proofs.lemmas.Bool.{cases_lt}
 use Rattle.std.proofs.lemmas.List.{get_or_push}
+use Rattle.heap_laws.proofs.AtPlaces.{set_cases}
+use Rattle.heap_terms.specs.OnPages.{BelongsTo}
 use Rattle.lisp_heap.specs.Agreement.{Agrees, small_out}
 use Rattle.lisp_heap.specs.CellsView.{with_cell_word, CellsView}
 use Rattle.lisp_heap.specs.ParcelView.{ParcelView, LeaseView, place_of, with_accepted, cons_accepted}
@@ -119,9 +122,21 @@ module _ (s : Inside) (h : IsSound s) (t : ℕ) (d x y : Cell) (index : ℕ) (lt
   abbrev second_value : Value
   second_value = cell_value (heap s) t y
 
+  -- a page is filled as before, or by the new object
+  new_filled : (page i : ℕ) → i < fill_of (entry_at placed_heap.pages page) → (i < fill_of (entry_at (heap s).pages page)) ⊎ BelongsTo (page_words * page + i) cons_object
+  new_filled page i l = elim (set_cases (heap s).pages on_page.page page (Used types.Cons 0 (on_page.fill + 2) on_page.page 1) Free) [
+    | inl same ↦ inl (rw (pages_are, same) at l)
+    | inr here ↦ elim (cases_lt i on_page.fill) [
+      | inl old ↦ inl (subst (λ (n : ℕ). i < fill_of (entry_at (heap s).pages n)) (sym here.0) (subst (λ (e : Entry). i < fill_of e) (sym on_page.entry) old))
+      | inr new ↦ (
+          let below : i < on_page.fill + 2 = rw (pages_are, here.2) at l in
+          inr (record { from = omega (arith, here.0); below = omega (arith, here.0) }))
+    ]
+  ]
+
   place_facts : IsPlaced placed_heap.pages cons_object
-  place_facts = new_placed s.program (heap s) placed_heap s.space cons_object first_value second_value (conses s h) (living_in (heap s).objects wf.contents)
-      h.holds.words refl (cell_living_in s h t x lt) (cell_living_in s h t y lt) objects_are pages_long placed_well_formed
+  place_facts = new_placed s.program (heap s) placed_heap s.space cons_object first_value second_value (conses s h) (living_in s.program (heap s) wf)
+      h.holds.words refl (cell_living_in s h t x lt) (cell_living_in s h t y lt) objects_are pages_long placed_well_formed new_filled
 
   -- what the writes require
   pub inside_space : index + 2 ≤ length s.space
@@ -163,13 +178,13 @@ module _ (s : Inside) (h : IsSound s) (t : ℕ) (d x y : Cell) (index : ℕ) (lt
 
   words_stand : WordsStand placed_heap (set (set s.space index (word_of (heap s).objects first_value)) (index + 1) (word_of (heap s).objects second_value))
   words_stand = subst (λ (n : ℕ). WordsStand placed_heap (set (set s.space n (word_of (heap s).objects first_value)) (n + 1) (word_of (heap s).objects second_value))) (sym index_at)
-      (WordsStand-commit s.program (heap s) placed_heap s.space cons_object first_value second_value (conses s h) (living_in (heap s).objects wf.contents)
-      h.holds.words refl (cell_living_in s h t x lt) (cell_living_in s h t y lt) objects_are pages_long placed_well_formed)
+      (WordsStand-commit s.program (heap s) placed_heap s.space cons_object first_value second_value (conses s h) (living_in s.program (heap s) wf)
+      h.holds.words refl (cell_living_in s h t x lt) (cell_living_in s h t y lt) objects_are pages_long placed_well_formed new_filled)
 
   labels_stand : LabelsStand placed_heap (set s.labels (index / 2) (length (heap s).objects))
   labels_stand = subst (λ (n : ℕ). LabelsStand placed_heap (set s.labels (n / 2) (length (heap s).objects))) (sym index_at)
-      (LabelsStand-commit s.program (heap s) placed_heap s.space cons_object first_value second_value (conses s h) (living_in (heap s).objects wf.contents)
-      h.holds.words refl (cell_living_in s h t x lt) (cell_living_in s h t y lt) objects_are pages_long placed_well_formed s.labels h.holds.labels)
+      (LabelsStand-commit s.program (heap s) placed_heap s.space cons_object first_value second_value (conses s h) (living_in s.program (heap s) wf)
+      h.holds.words refl (cell_living_in s h t x lt) (cell_living_in s h t y lt) objects_are pages_long placed_well_formed new_filled s.labels h.holds.labels)
 
   reference_is : word_of new_objects (values.Ref (length (heap s).objects)) ≡ reference_word index kinds.Cons
   reference_is =
@@ -261,9 +276,9 @@ module _ (s : Inside) (h : IsSound s) (t : ℕ) (d x y : Cell) (index : ℕ) (lt
       let k = open_run_used s.program (heap s) u page wf e in
       let here : page + 0 ≡ on_page.page = omega (arith, same) in
       let entry : entry_at (heap s).pages (page + 0) ≡ Used types.Cons 0 on_page.fill on_page.page 1 = ap (λ (n : ℕ). entry_at (heap s).pages n) here ∙ on_page.entry in
-      let used : IsOpenRunPage page k.k (Used types.Cons 0 on_page.fill on_page.page 1) =
-      subst (λ (n : Entry). IsOpenRunPage page k.k n) entry (k.each 0 (omega (arith, k.long))) in
-      omega (arith, used.3, k.long)
+      let used : IsOpenRunPage k.ty page k.k (Used types.Cons 0 on_page.fill on_page.page 1) =
+      subst (λ (n : Entry). IsOpenRunPage k.ty page k.k n) entry (k.each 0 (omega (arith, k.long))) in
+      omega (arith, used.4, k.long)
 
   pub placed_agrees : (q : ParcelView) → q.owner ≡ t → Agrees (heap s) q →
       Agrees (after s.program (heap s) (Did t cons_command (answers.Placed (length (heap s).objects) index))) (with_accepted q)

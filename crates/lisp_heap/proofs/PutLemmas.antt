@@ -1,30 +1,30 @@
 -- A `put` into a cons: its word is written, and the words stand for the heap with the field changed.
-use Rattle.std.proofs.Common.{◌≡◌, ◌≢◌, ℕ, zero, suc, ◌+◌, ◌<◌, ◌≤◌, List, length, refl, sym, ◌∙◌, subst, ap, arith, set, length-set, get_or-set_same, get_or-set_other, inl, inr, Option, Some, None, ◌⊎◌}
+use Rattle.std.proofs.Common.{◌≡◌, ◌≢◌, ℕ, zero, suc, ◌+◌, ◌*◌, ◌<◌, ◌≤◌, List, length, refl, sym, ◌∙◌, subst, ap, arith, set, length-set, get_or-set_same, get_or-set_other, inl, inr, Option, Some, None, ◌⊎◌}
 use Rattle.std.proofs.lemmas.Bool.{cases_eq}
 use Rattle.std.specs.Prelude.{slice_index, IfSome}
 use Rattle.heap_terms.specs.declared.cells.Value.{Value}
 use Rattle.heap_terms.specs.declared.cells.Value.TheVariants.{Ref}
 use Rattle.heap_terms.specs.declared.programs.Program.{Program}
-use Rattle.heap_terms.specs.Heap.{NamedHeap, object_at}
+use Rattle.heap_terms.specs.Heap.{NamedHeap, object_at, entry_at, fill_of}
+use Rattle.heap_terms.specs.Layout.{page_words, filler_word}
+use Rattle.heap_terms.specs.OnPages.{BelongsTo}
 use Rattle.heap_terms.specs.Objects.{Object, Contents, ConsOf, words_of_object}
-use Rattle.heap_terms.specs.Simple.{with_field_at, object_with_field, with_field}
+use Rattle.heap_terms.specs.Referents.{with_field_at, with_field}
 use Rattle.heap_terms.specs.Stands.{WordsStand, SlotsStand, KeptStand}
-use Rattle.heap_terms.specs.WellFormed.{IsWellFormed, AreApart, IsPlaced}
+use Rattle.heap_terms.specs.WellFormed.{IsWellFormed, AreApart, IsPlaced, IsOwned}
 use Rattle.heap_terms.specs.Spelling.{word_of}
 use Rattle.heap_laws.proofs.AtPlaces.{IfSome-at, IfSome-from, IsSome-from}
-use Rattle.lisp_heap.proofs.ObjectLemmas.{word_of-with_field_at, name_below}
-use Rattle.lisp_heap.proofs.WordLemmas.{AreConses, cons_words, cons_at, cons_spelled, nothing_kept, no_fillers, outside}
+use Rattle.lisp_heap.proofs.ObjectLemmas.{object_with_field, word_of-with_field_at, name_below}
+use Rattle.lisp_heap.proofs.WordLemmas.{AreConses, cons_words, cons_at, cons_spelled, nothing_kept, outside}
 
 -- two objects of a well-formed heap share no word
 pub apart_at : (p : Program) (a : NamedHeap) (x y : ℕ) (o q : Object) → IsWellFormed p a → x ≢ y → object_at a.objects x ≡ Some o →
     object_at a.objects y ≡ Some q → AreApart o q
-apart_at p a x y o q wf n hx hy =
-    IfSome-at (AreApart o) (object_at a.objects y) q hy
-    (IfSome-at (λ (k : Object). IfSome (object_at a.objects y) (AreApart k)) (object_at a.objects x) o hx (wf.apart x y n))
+apart_at p a x y o q wf n hx hy = wf.sound.apart x y o q n hx hy
 
 -- an object of a well-formed heap is placed
 pub placed_at : (p : Program) (a : NamedHeap) (x : ℕ) (o : Object) → IsWellFormed p a → object_at a.objects x ≡ Some o → IsPlaced a.pages o
-placed_at p a x o wf h = IfSome-at (IsPlaced a.pages) (object_at a.objects x) o h (wf.placed x)
+placed_at p a x o wf h = (wf.sound.objects x o h).placed
 
 module _ (p : Program) (a : NamedHeap) (words : List ℕ) (x i : ℕ) (o : Object) (P Q w : Value)
     (wf : IsWellFormed p a) (conses : AreConses a.objects) (s : WordsStand a words)
@@ -112,10 +112,39 @@ module _ (p : Program) (a : NamedHeap) (words : List ℕ) (x i : ℕ) (o : Objec
     where
       own : (j : ℕ) → KeptStand new_words o.place (with_field (ConsOf P Q) j w)
       own zero = nothing_kept new_words o.place (ConsOf w Q) w Q refl
-      own (suc j) = nothing_kept new_words o.place (ConsOf P w) P w refl
+      own (suc zero) = nothing_kept new_words o.place (ConsOf P w) P w refl
+      own (suc (suc j)) = nothing_kept new_words o.place (ConsOf P Q) P Q refl
 
-  pub WordsStand-put : IsWellFormed p (record a { objects = new_objects }) → WordsStand (record a { objects = new_objects }) new_words
-  WordsStand-put after = record {
+  -- a word that belonged to an object belongs to it still
+  owned_still : (index : ℕ) → IsOwned a.objects index → IsOwned new_objects index
+  owned_still index h = elim (cases_eq h.0 x) [
+    | inl e ↦ (
+        let here : Some o ≡ Some h.1 = sym there ∙ ap (object_at a.objects) (sym e) ∙ h.2 in
+        let same : o ≡ h.1 = cc in
+        let own : BelongsTo index o = subst (λ (k : Object). BelongsTo index k) (sym same) h.3 in
+        let two : words_of_object o ≡ 2 = cons_words o P Q is in
+        let two_now : words_of_object changed ≡ 2 = two_of i in
+        (x, changed, now_there, record { from = own.from; below = omega (arith, own.below, two, two_now) }))
+    | inr n ↦ (h.0, h.1, get_or-set_other a.objects x h.0 (object_with_field (object_at a.objects x) i w) None n ∙ h.2, h.3)
+  ]
+    where
+      two_of : (j : ℕ) → words_of_object (record o { contents = with_field (ConsOf P Q) j w }) ≡ 2
+      two_of zero = refl
+      two_of (suc zero) = refl
+      two_of (suc (suc j)) = refl
+
+  -- the word that was written belongs to the object, so that fillers are as they were
+  fillers_kept : (page k : ℕ) → k < fill_of (entry_at a.pages page) → ¬ IsOwned new_objects (page_words * page + k) →
+      slice_index new_words (page_words * page + k) ≡ filler_word
+  fillers_kept page k l none =
+      let two : words_of_object o ≡ 2 = cons_words o P Q is in
+      let elsewhere : page_words * page + k ≢ at_word = λ e. none (owned_still (page_words * page + k)
+      (x, o, there, record { from = omega (arith, e); below = omega (arith, e, two, low) })) in
+      get_or-set_other words at_word (page_words * page + k) (word_of a.objects w) 0 elsewhere
+      ∙ s.fillers page k l (λ owned. none (owned_still (page_words * page + k) owned))
+
+  pub WordsStand-put : WordsStand (record a { objects = new_objects }) new_words
+  WordsStand-put = record {
     long = length-set words at_word (word_of a.objects w) ∙ s.long;
     spelled = λ name. IfSome-from (λ (q : Object). SlotsStand new_objects new_words q.place q.contents) (object_at new_objects name) (λ q h.
         elim (cases_eq name x) [
@@ -126,5 +155,5 @@ module _ (p : Program) (a : NamedHeap) (words : List ℕ) (x i : ℕ) (o : Objec
           | inr n ↦ others_words name q n (sym (get_or-set_other a.objects x name (object_with_field (object_at a.objects x) i w) None n) ∙ h)
         ]);
     kept = λ name. IfSome-from (λ (q : Object). KeptStand new_words q.place q.contents) (object_at new_objects name) (none_kept name);
-    fillers = no_fillers p (record a { objects = new_objects }) new_words after;
+    fillers = λ page k l none. fillers_kept page k l none;
   }

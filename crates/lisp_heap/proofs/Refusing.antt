@@ -1,5 +1,5 @@
 -- `!exhausted`: the command is answered, and nothing else changes.
-use Rattle.std.proofs.Common.{◌≡◌, ℕ, ◌+◌, ◌<◌, length, subst, ap, sym, refl, arith, Some, get_or}
+use Rattle.std.proofs.Common.{◌≡◌, ℕ, ◌+◌, ◌<◌, length, subst, ap, ◌∙◌, sym, refl, arith, Some, get_or}
 use Rattle.heap_terms.specs.declared.answers.Answer.TheVariants as answers
 use Rattle.heap_terms.specs.declared.answers.Refusal.TheVariants.{Exhausted}
 use Rattle.heap_terms.specs.declared.commands.Command.{Command}
@@ -8,6 +8,9 @@ use Rattle.heap_terms.specs.declared.pages.Next.{Next}
 use Rattle.heap_terms.specs.declared.pages.Next.TheVariants as nexts
 use Rattle.heap_terms.specs.Heap.{NamedHeap, thread_at}
 use Rattle.heap_terms.specs.Histories.{IsNext, IsAnswer, after, after_command, advance, command_at, next, wished_size}
+use Rattle.heap_terms.specs.declared.kinds.Kind.TheVariants as kinds
+use Rattle.heap_terms.specs.Outcome.{Outcome}
+use Rattle.heap_laws.proofs.NextEvents.{allocating_refused}
 use Rattle.heap_terms.specs.Regions.{HasNoRun, Wish, pages_needed, wish_of}
 use Rattle.lisp_heap.specs.Agreement.{Agrees}
 use Rattle.lisp_heap.specs.ParcelView.{ParcelView}
@@ -30,11 +33,12 @@ module _ (s : Inside) (h : IsSound s) (t : ℕ) (c : Command) (lt : t < length s
       let wish = opens_cons s.program (heap s) t c h.valid at opens in
       let no_run : HasNoRun (heap s).pages (pages_needed (wished_size (wish_of c))) =
       subst (λ (w : Wish). HasNoRun (heap s).pages (pages_needed (wished_size w))) (sym wish) none in
-      (at, subst (λ (n : Next). IsAnswer (heap s) t c (answers.Refused Exhausted) n) (sym opens) (refl, no_run))
+      (at, subst (λ (n : Next). IsAnswer (heap s) t c (answers.Refused Exhausted) n) (sym opens) (ap (λ (o : Outcome). o.answer) (sym (allocating_refused (heap s) t c kinds.Cons 2 0 wish)), no_run))
 
   refused_after : after s.program (heap s) (Did t c (answers.Refused Exhausted)) ≡ advance (heap s) t
   unfolding after
   refused_after = ap (after_command s.program (heap s) t c) opens
+      ∙ ap (λ (o : Outcome). advance o.heap t) (allocating_refused (heap s) t c kinds.Cons 2 0 (opens_cons s.program (heap s) t c h.valid at opens))
 
   pub refused_holds : Holds (after s.program (heap s) (Did t c (answers.Refused Exhausted))) (record (parts_of s) { states = advanced s.states t })
   refused_holds =

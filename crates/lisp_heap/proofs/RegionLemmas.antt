@@ -13,7 +13,7 @@ use Rattle.heap_terms.specs.Histories.{IsNext, IsOpening, after, command_at, nex
 use Rattle.heap_terms.specs.Layout.{page_words}
 use Rattle.heap_terms.specs.Regions.{IsFreeRun, IsLowestRun, Wish, opened, with_run}
 use Rattle.heap_terms.specs.WellFormed.{IsWellFormed, IsOpenPage, IsOpenRunPage}
-use Rattle.heap_laws.proofs.SoundHeaps.{after-well_formed, open_page_used, open_run_used}
+use Rattle.heap_laws.proofs.SoundHeaps.{open_page_used, open_run_used}
 use Rattle.heap_laws.proofs.Allocating.{run_length, run_entry, run_cases, HasSameEntries}
 use Rattle.lisp_heap.specs.Agreement.{Agrees, small_out}
 use Rattle.lisp_heap.specs.ParcelView.{ParcelView, with_cons}
@@ -28,16 +28,19 @@ use Rattle.lisp_heap.proofs.Soundness.{heap, well_formed}
 use Rattle.lisp_heap.proofs.Threads.{thread_at-same, thread_at-other}
 use Rattle.lisp_heap.proofs.Unchanged.{state_read, states_set}
 use Rattle.lisp_heap.proofs.Wishing.{opens_cons}
-use Rattle.lisp_heap.proofs.WordLemmas.{no_fillers}
+
+-- a page that was taken holds nothing
+none_below : (i : ℕ) → i < 0 → ⊥
+none_below i l = omega arith
 
 -- a page that is open is not free
 open_not_free : (ty : PageType) (page : ℕ) (e : Entry) → IsOpenPage ty page e → e ≡ Free → ⊥
 open_not_free ty page Free h e = h
 open_not_free ty page (Used other g fill first k) h e = cc
 
-run_not_free : (start k : ℕ) (e : Entry) → IsOpenRunPage start k e → e ≡ Free → ⊥
-run_not_free start k Free h e = h
-run_not_free start k (Used other g fill first n) h e = cc
+run_not_free : (ty : PageType) (start k : ℕ) (e : Entry) → IsOpenRunPage ty start k e → e ≡ Free → ⊥
+run_not_free ty start k Free h e = h
+run_not_free ty start k (Used other g fill first n) h e = cc
 
 -- the entries of open regions stay while a run of free pages is taken
 pub entries_kept : (p : Program) (a : NamedHeap) (first : ℕ) (u : ℕ) → IsWellFormed p a → IsFreeRun a.pages first 1 →
@@ -52,9 +55,9 @@ entries_kept p a first u wf run b pages = record {
     | inr taken ↦ (
         let k = open_run_used p a u page wf e in
         let here : page + 0 ≡ page = omega arith in
-        let used : IsOpenRunPage page k.k (entry_at a.pages page) =
-        subst (λ (n : ℕ). IsOpenRunPage page k.k (entry_at a.pages n)) here (k.each 0 (omega (arith, k.long))) in
-        absurd (run_not_free page k.k (entry_at a.pages page) used taken.3))
+        let used : IsOpenRunPage k.ty page k.k (entry_at a.pages page) =
+        subst (λ (n : ℕ). IsOpenRunPage k.ty page k.k (entry_at a.pages n)) here (k.each 0 (omega (arith, k.long))) in
+        absurd (run_not_free k.ty page k.k (entry_at a.pages page) used taken.3))
   ];
 }
 
@@ -80,10 +83,6 @@ module _ (s : Inside) (h : IsSound s) (t : ℕ) (c : Command) (first : ℕ) (lt 
   unfolding after opened
   opened_after = refl
 
-  opened_well_formed : IsWellFormed s.program opened_heap
-  opened_well_formed = subst (λ (b : NamedHeap). IsWellFormed s.program b) opened_after
-      (after-well_formed s.program h.valid (heap s) (Opened t types.Cons first 1) opened_next (well_formed s h))
-
   state_here : get_or s.states t fresh_state ≡ state_of (thread_at (heap s) t)
   state_here = state_read (heap s) s.states t fresh_state h.holds.states (omega (arith, (well_formed s h).threads_length, lt))
 
@@ -97,7 +96,10 @@ module _ (s : Inside) (h : IsSound s) (t : ℕ) (c : Command) (first : ℕ) (lt 
           long = h.holds.words.long ∙ ap (λ n. page_words * n) (sym long);
           spelled = h.holds.words.spelled;
           kept = h.holds.words.kept;
-          fillers = no_fillers s.program opened_heap s.space opened_well_formed;
+          fillers = λ page i l none. elim (run_cases a.pages first 1 types.Cons page lowest.run) [
+            | inl same ↦ h.holds.words.fillers page i (rw same at l) none
+            | inr taken ↦ absurd (none_below i (rw taken.2 at l))
+          ];
         };
         pages = ap (λ (ps : List Entry). with_run ps first 1 types.Cons) h.holds.pages;
         labels = record { long = h.holds.labels.long ∙ ap (λ n. 256 * n) (sym long); named = h.holds.labels.named };

@@ -1,7 +1,7 @@
 -- What is known of the heap for which a sound World stands.
 use Rattle.std.proofs.Common.{◌≡◌, ℕ, ◌<◌, List, length, ◌∙◌, subst, ap, arith, Option}
 use Rattle.std.proofs.Math.ListN.{length-map}
-use Rattle.std.specs.Prelude.{IfSome}
+use Rattle.heap_terms.specs.declared.programs.Program.{Program}
 use Rattle.heap_terms.specs.Heap.{NamedHeap, object_at}
 use Rattle.heap_terms.specs.Histories.{replay}
 use Rattle.heap_terms.specs.Objects.{Object, Contents}
@@ -23,9 +23,9 @@ pub well_formed : (s : Inside) → IsSound s → IsWellFormed s.program (heap s)
 well_formed s h = replay-well_formed s.program s.history.items h.valid h.lawful
 
 -- a well-formed heap of conses has living values in each of them
-pub living_in : (objects : List (Option Object)) → ((name : ℕ) → IfSome (object_at objects name) (λ o. HoldsLiving objects o.contents)) → HoldLiving objects
-living_in objects h name o p q there is =
-    subst (λ (k : Contents). HoldsLiving objects k) is (IfSome-at (λ (o : Object). HoldsLiving objects o.contents) (object_at objects name) o there (h name))
+pub living_in : (p : Program) (a : NamedHeap) → IsWellFormed p a → HoldLiving a.objects
+living_in program a wf name o p q there is =
+    subst (λ (k : Contents). HoldsLiving a.objects k) is (wf.sound.objects name o there).contents
 
 pub conses : (s : Inside) → IsSound s → AreConses (heap s).objects
 conses s h name o there = cons_contents o.contents (IfSome-at IsCons (object_at (heap s).objects name) o there (only_conses s.program s.history.items h.valid h.lawful name))

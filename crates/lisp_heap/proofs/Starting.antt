@@ -12,7 +12,7 @@ use Rattle.heap_terms.specs.Objects.{Object}
 use Rattle.heap_terms.specs.Stands.{WordsStand}
 use Rattle.heap_terms.specs.Valid.{IsValid}
 use Rattle.heap_terms.specs.Spelling.{word_of}
-use Rattle.heap_laws.proofs.SoundHeaps.{start_thread_is, start-well_formed}
+use Rattle.heap_laws.proofs.SoundHeaps.{start_thread_is, start_free}
 use Rattle.lisp_heap.specs.CellsView.{spot, zero_cells}
 use Rattle.lisp_heap.specs.Sound.{IsSound, parts_of}
 use Rattle.lisp_heap.specs.Parts.{page_labels, fresh_parts}
@@ -20,7 +20,10 @@ use Rattle.lisp_heap.specs.Standing.{CellsStand, LabelsStand, Holds}
 use Rattle.lisp_heap.specs.State.{state_of, fresh_state}
 use Rattle.lisp_heap.specs.declared.states.ThreadState.{ThreadState}
 use Rattle.lisp_heap.specs.declared.world.World.TheInside.{Inside}
-use Rattle.lisp_heap.proofs.WordLemmas.{no_fillers}
+
+-- no page is filled
+nothing_filled : (page i : ℕ) → i < 0 → ⊥
+nothing_filled page i l = omega arith
 
 -- words 0 in every page
 start_words : (p : Program) → WordsStand (start p) (replicate (page_words * p.pages) 0)
@@ -29,7 +32,7 @@ start_words p = record {
   long = length-replicate (page_words * p.pages) 0 ∙ ap (λ (n : ℕ). page_words * n) (sym (length-replicate p.pages Free));
   spelled = λ name. tt;
   kept = λ name. tt;
-  fillers = no_fillers p (start p) (replicate (page_words * p.pages) 0) (start-well_formed p);
+  fillers = λ page i l none. absurd (nothing_filled page i (rw (start_free p page) at l));
 }
 
 start_labels : (p : Program) → LabelsStand (start p) (replicate (page_labels * p.pages) 0)

@@ -1,5 +1,5 @@
 -- A World after one event more.
-use Rattle.std.proofs.Common.{◌≡◌, ℕ, ◌+◌, ◌<◌, ◌≤◌, ◌^◌, List, [], ◌∷◌, ◌++◌, length, map, subst, ap, ◌∙◌, sym, refl, arith, Option, Some, None, get_or}
+use Rattle.std.proofs.Common.{◌≡◌, ℕ, ◌+◌, ◌<◌, ◌≤◌, ◌^◌, List, [], ◌∷◌, ◌++◌, length, map, subst, ap, ◌∙◌, sym, refl, arith, Option, Some, None, false, get_or}
 use Rattle.std.proofs.lemmas.List.Sums.{get_or-le-sum_by}
 use Rattle.std.proofs.lemmas.Option.{get_or_from_slice_get}
 use Rattle.std.specs.Prelude.{slice_get, IsSome}
@@ -12,10 +12,10 @@ use Rattle.heap_terms.specs.declared.pages.Next.TheVariants as nexts
 use Rattle.heap_terms.specs.declared.programs.Program.{Program}
 use Rattle.heap_terms.specs.Heap.{NamedHeap, thread_at}
 use Rattle.heap_terms.specs.Histories.{IsNext, IsAnswer, after, after_command, advance, command_at, next, next_command, script_of, replay, thread_of, Lawful}
-use Rattle.heap_terms.specs.Simple.{effect_of}
+use Rattle.heap_terms.specs.Outcomes.{outcome_of}
 use Rattle.heap_terms.specs.Valid.{IsValid}
 use Rattle.heap_terms.specs.WellFormed.{IsWellFormed}
-use Rattle.heap_laws.proofs.SoundHeaps.{effect-kept}
+use Rattle.heap_laws.proofs.SoundHeaps.{outcome-kept}
 use Rattle.heap_laws.proofs.ValidScripts.{script_place, script_command}
 use Rattle.heap_laws.proofs.NextEvents.{Lawful-push, replay-push, next_parts}
 use Rattle.lisp_heap.specs.Agreement.{Agrees}
@@ -99,28 +99,32 @@ module _ (s : Inside) (h : IsSound s) (t : ℕ) (c : Command) (answer : Answer) 
   unfolding IsNext
   did_next = (at, subst (λ (n : Next). IsAnswer (heap s) t c answer n) (sym simple) is.answers)
 
-  pub did_after : after s.program (heap s) (Did t c answer) ≡ advance (effect_of (heap s) t c) t
+  pub did_after : after s.program (heap s) (Did t c answer) ≡ advance (outcome_of (heap s) t c).heap t
   unfolding after
   did_after = ap (after_command s.program (heap s) t c) simple
 
-  effect_well_formed : IsWellFormed s.program (effect_of (heap s) t c)
-  effect_well_formed = effect-kept s.program (heap s) t c (well_formed s h) lt (script_command s.program t (thread_at (heap s) t).done c h.valid at)
+  alive : (thread_at (heap s) t).ended ≡ false
+  alive = (next_parts s.program (heap s) t nexts.Simple simple (λ d. cc) (λ last d. cc)).0
 
-  effect_holds : Holds (effect_of (heap s) t c) (parts_after (parts_of s) t change)
-  effect_holds = Holds-change s.program (heap s) (effect_of (heap s) t c) (parts_of s) t change (well_formed s h) effect_well_formed
+  effect_well_formed : IsWellFormed s.program (outcome_of (heap s) t c).heap
+  effect_well_formed = outcome-kept s.program (heap s) t c (well_formed s h) h.valid.pages_most lt alive
+      (script_command s.program t (thread_at (heap s) t).done c h.valid at).in_range
+
+  effect_holds : Holds (outcome_of (heap s) t c).heap (parts_after (parts_of s) t change)
+  effect_holds = Holds-change s.program (heap s) (outcome_of (heap s) t c).heap (parts_of s) t change (well_formed s h) effect_well_formed
       (conses s h) lt (parts_hold s h) is.makes
 
   -- the states are those before, and thread t is as far as it was
-  pub same_states : map state_of (effect_of (heap s) t c).threads ≡ map state_of (heap s).threads
-  same_states = makes_states (heap s) t (effect_of (heap s) t c) change is.makes
+  pub same_states : map state_of (outcome_of (heap s) t c).heap.threads ≡ map state_of (heap s).threads
+  same_states = makes_states (heap s) t (outcome_of (heap s) t c).heap change is.makes
 
-  pub same_pages : (effect_of (heap s) t c).pages ≡ (heap s).pages
-  same_pages = makes_pages (heap s) t (effect_of (heap s) t c) change is.makes
+  pub same_pages : (outcome_of (heap s) t c).heap.pages ≡ (heap s).pages
+  same_pages = makes_pages (heap s) t (outcome_of (heap s) t c).heap change is.makes
 
   pub did_holds : Holds (after s.program (heap s) (Did t c answer))
       (record (parts_after (parts_of s) t change) { states = advanced s.states t })
   did_holds =
-      let b = effect_of (heap s) t c in
+      let b = (outcome_of (heap s) t c).heap in
       let state_here : get_or s.states t fresh_state ≡ state_of (thread_at b t) =
       state_read (heap s) s.states t fresh_state h.holds.states (omega (arith, (well_formed s h).threads_length, lt)) ∙ sym (states_at (heap s) b t same_states) in
       let moved : ThreadState = record (get_or s.states t fresh_state) { done = (get_or s.states t fresh_state).done + 1 } in
@@ -131,7 +135,7 @@ module _ (s : Inside) (h : IsSound s) (t : ℕ) (c : Command) (answer : Answer) 
 
   pub did_agrees : (q : ParcelView) → Agrees (heap s) q → Agrees (after s.program (heap s) (Did t c answer)) q
   did_agrees q agrees =
-      let b = effect_of (heap s) t c in
+      let b = (outcome_of (heap s) t c).heap in
       subst (λ (a : NamedHeap). Agrees a q) (sym did_after)
       (Agrees-thread b t (record (thread_at b t) { done = (thread_at b t).done + 1 }) q refl refl refl refl
       (Agrees-same (heap s) b q same_pages (states_at (heap s) b q.owner same_states) agrees))
@@ -139,7 +143,7 @@ module _ (s : Inside) (h : IsSound s) (t : ℕ) (c : Command) (answer : Answer) 
   pub can_change : CanChange s.cells s.space t change
   can_change = by_change change is.makes
     where
-      by_change : (k : Change) → Makes (heap s) t (effect_of (heap s) t c) k → CanChange s.cells s.space t k
+      by_change : (k : Change) → Makes (heap s) t (outcome_of (heap s) t c).heap k → CanChange s.cells s.space t k
       by_change changes.Nothing m = tt
       by_change (changes.InCell cell word) m = (m.is_cell, cells_room s t h lt)
       by_change (changes.InSpace index word) m =

@@ -1,13 +1,10 @@
 -- The words of the space go on standing for the heap.
-use Rattle.std.proofs.Common.{◌≡◌, ◌≢◌, ℕ, zero, suc, ◌+◌, ◌*◌, ◌<◌, ◌≤◌, List, [], ◌∷◌, sym, subst, ap, arith, set, get_or-set_other, inl, inr, Option, Some, ◌⊎◌}
+use Rattle.std.proofs.Common.{◌≡◌, ◌≢◌, ℕ, zero, suc, ◌+◌, ◌*◌, ◌<◌, ◌≤◌, List, sym, subst, ap, arith, set, get_or-set_other, inl, inr, Option, Some, ◌⊎◌}
 use Rattle.std.specs.Prelude.{slice_index}
 use Rattle.heap_terms.specs.declared.cells.Value.{Value}
-use Rattle.heap_terms.specs.declared.programs.Program.{Program}
-use Rattle.heap_terms.specs.Heap.{NamedHeap, object_at, entry_at, fill_of}
-use Rattle.heap_terms.specs.Layout.{page_words}
+use Rattle.heap_terms.specs.Heap.{NamedHeap, object_at}
 use Rattle.heap_terms.specs.Objects.{Object, Contents, ConsOf, words_of_object}
 use Rattle.heap_terms.specs.Stands.{WordsStand, SlotsStand, KeptStand}
-use Rattle.heap_terms.specs.WellFormed.{IsWellFormed, IsOwned}
 use Rattle.heap_terms.specs.Spelling.{word_of}
 use Rattle.heap_laws.proofs.AtPlaces.{IfSome-at}
 
@@ -53,11 +50,6 @@ nothing_kept words from contents p q is = subst (λ (k : Contents). KeptStand wo
     none words from p q zero e = cc
     none words from p q (suc zero) e = cc
     none words from p q (suc (suc i)) e = cc
-
--- where no word is left over, fillers are none
-pub no_fillers : (p : Program) (a : NamedHeap) (words : List ℕ) → IsWellFormed p a → (page i : ℕ) → i < fill_of (entry_at a.pages page) →
-    ¬ IsOwned a.objects (page_words * page + i) → slice_index words (page_words * page + i) ≡ 0x41
-no_fillers p a words wf page i h none = absurd (none (wf.owned page i h))
 
 -- a word that lies outside a cons is none of its two
 pub outside : (words : List ℕ) (place at word : ℕ) → (at < place) ⊎ (place + 2 ≤ at) →

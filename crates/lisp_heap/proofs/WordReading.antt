@@ -16,11 +16,12 @@ use Rattle.heap_terms.specs.Heap.{thread_at, object_at, entry_at, fill_of}
 use Rattle.heap_terms.specs.Histories.{command_at, script_of}
 use Rattle.heap_terms.specs.Layout.{base_address, fixnum_word, reference_word}
 use Rattle.heap_terms.specs.Objects.{Object, Contents, ConsOf, kind_of, words_of_object}
-use Rattle.heap_terms.specs.Simple.{fields_at}
+use Rattle.heap_terms.specs.Referents.{fields_at}
 use Rattle.heap_terms.specs.Valid.{IsCell, IsFixnum}
 use Rattle.heap_terms.specs.WellFormed.{IsLiving}
 use Rattle.heap_terms.specs.Spelling.{word_of, word_of_object}
 use Rattle.heap_laws.proofs.AtPlaces.{IfSome-at, IsSome-value}
+use Rattle.heap_laws.proofs.Allocating.{entry_fill}
 use Rattle.heap_laws.proofs.SoundHeaps.{cell_living}
 use Rattle.lisp_words.specs.Tagged.{IsTagged, tag_bits}
 use Rattle.lisp_words.specs.declared.pointers.Lowtag.{Lowtag}
@@ -257,7 +258,7 @@ cons_words_in s h v index k =
     let placed = placed_at s.program (heap s) k.name k.object (well_formed s h) k.there in
     let two : words_of_object k.object ≡ 2 = cons_words k.object k.first k.second k.cons in
     let words = cons_at (heap s) s.space k.name k.object k.first k.second h.holds.words k.there k.cons in
-    let lives = living_in (heap s).objects (well_formed s h).contents k.name k.object k.first k.second k.there k.cons in
+    let lives = living_in s.program (heap s) (well_formed s h) k.name k.object k.first k.second k.there k.cons in
     record {
       cons = k;
       inside = omega (arith, placed.inside, two, h.holds.words.long, k.place);
@@ -277,4 +278,4 @@ pub fill_small : (s : Inside) → IsSound s → (page : ℕ) (ty : PageType) (g 
 fill_small s h page ty g fill first k e =
     let on_heap : Used ty g fill first k ≡ entry_at (heap s).pages page = e ∙ ap (λ (ps : List Entry). entry_at ps page) h.holds.pages in
     let same : fill ≡ fill_of (entry_at (heap s).pages page) = ap fill_of on_heap in
-    omega (arith, same, ((well_formed s h).fills page).most)
+    omega (arith, same, (entry_fill (entry_at (heap s).pages page) ((well_formed s h).sound.entries page)).most)

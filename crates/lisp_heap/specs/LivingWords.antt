@@ -4,7 +4,7 @@ use Rattle.heap_terms.specs.declared.cells.Value.{Value}
 use Rattle.heap_terms.specs.declared.cells.Value.TheVariants as values
 use Rattle.heap_terms.specs.Heap.{NamedHeap, object_at}
 use Rattle.heap_terms.specs.Objects.{Object, ConsOf}
-use Rattle.heap_terms.specs.Simple.{fields_at}
+use Rattle.heap_terms.specs.Referents.{fields_at}
 use Rattle.heap_terms.specs.WellFormed.{IsLiving}
 use Rattle.heap_terms.specs.Spelling.{word_of}
 

@@ -8,7 +8,8 @@ use Rattle.heap_terms.specs.declared.commands.Command.{Command}
 use Rattle.heap_terms.specs.Cells.{with_cell}
 use Rattle.heap_terms.specs.Heap.{NamedHeap, object_at}
 use Rattle.heap_terms.specs.Objects.{Object, ConsOf}
-use Rattle.heap_terms.specs.Simple.{answer_of, effect_of, with_field_at}
+use Rattle.heap_terms.specs.Outcomes.{outcome_of}
+use Rattle.heap_terms.specs.Referents.{with_field_at}
 use Rattle.heap_terms.specs.Valid.{IsCell}
 use Rattle.heap_terms.specs.Spelling.{word_of}
 use Rattle.lisp_heap.specs.CellsView.{CellsView, HasCells, with_cell_word}
@@ -63,5 +64,5 @@ Makes a t new (changes.InSpace index word) = PutsInCons a new index word
 
 -- the answer of thread t's command, and what changes with it
 pub record IsPlan (a : NamedHeap) (t : ℕ) (c : Command) (answer : Answer) (change : Change) : Type 0 where
-  pub answers : answer_of a t c ≡ Some answer
-  pub makes : Makes a t (effect_of a t c) change
+  pub answers : answer ≡ (outcome_of a t c).answer
+  pub makes : Makes a t (outcome_of a t c).heap change

@@ -3,6 +3,7 @@
 ghost use Rattle.std.specs.Prelude.{◌≡◌, ◌↔◌, ◌≤◌, ◌<◌, length, option_map, IsTrue};
 ghost use Rattle.std.specs.Option.{ForSome};
 ghost use Rattle.heap_terms.specs.declared.kinds.PageType.{PageType};
+ghost use Rattle.heap_terms.specs.declared.limits.TheConstants.{MOST_PAGES};
 ghost use Rattle.heap_terms.specs.Heap.{entry_at, fill_of, thread_at};
 ghost use Rattle.heap_terms.specs.Layout.{page_words};
 ghost use Rattle.lisp_heap.specs.Agreement.{Agrees, run_out, run_pages_of, small_out};
@@ -78,7 +79,7 @@ impl World {
         requires { page < length (heap_of self.now).pages }
         ensures value { result ≡ fill_of (entry_at (heap_of self.now).pages page) }
         ensures most { result ≤ page_words }
-        ensures page { page < 1024 }
+        ensures page { page < MOST_PAGES }
     {
         match self.pages.entry(page) {
             Entry::Free => 0,
@@ -90,7 +91,7 @@ impl World {
     fn run_pages(&self, page: u32) -> u32
         requires { page < length (heap_of self.now).pages }
         ensures value { result ≡ run_pages_of (entry_at (heap_of self.now).pages page) }
-        ensures page { page < 1024 }
+        ensures page { page < MOST_PAGES }
     {
         match self.pages.entry(page) {
             Entry::Free => 0,

@@ -1,6 +1,7 @@
 //! The words in the Lisp cells of all threads.
 
 ghost use Rattle.std.specs.Prelude.{◌≡◌, ◌+◌, ◌*◌, ◌<◌, ◌≤◌, ◌^◌, ℕ, length, replicate, IfOk, slice_index, slice_set};
+ghost use Rattle.heap_terms.specs.declared.limits.TheConstants.{MOST_THREADS};
 ghost use Rattle.heap_terms.specs.Valid.{IsCell};
 ghost use Rattle.lisp_heap.specs.CellsView.{HasCells, cell_word, cells_each, cleared, with_cell_word, with_cleared, zero_cells};
 
@@ -49,7 +50,7 @@ fn clear(words: &mut [u64], from: usize)
 impl CellWords {
     /// The cells of so many threads, each the fixnum 0.
     pub fn new(alloc: Global, threads: usize) -> Result<CellWords, Memory>
-        requires { threads ≤ 8 }
+        requires { threads ≤ MOST_THREADS }
         ensures { IfOk result (λ cells. cells ≡ zero_cells threads) }
     {
         Ok(CellWords {
@@ -60,6 +61,7 @@ impl CellWords {
     }
 
     /// The word in a cell of thread t.
+    #[inline(always)]
     pub fn read(&self, t: usize, cell: Cell) -> u64
         requires cell { IsCell cell }
         requires room { HasCells self.now t }
@@ -73,6 +75,7 @@ impl CellWords {
     }
 
     /// Puts a word into a cell of thread t.
+    #[inline(always)]
     pub fn write(&mut self, t: usize, cell: Cell, word: u64)
         requires cell { IsCell cell }
         requires room { HasCells self.old t }

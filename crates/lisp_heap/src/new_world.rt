@@ -28,6 +28,16 @@ fn fresh_parcels(alloc: Global, threads: u32) -> Result<Vec<Parcel>, Memory>
     Ok(parcels)
 }
 
+/// About how many events a run of the program has. It is a guess: where there are more, the
+/// history grows.
+fn events_of(program: &Program) -> usize {
+    let mut events: usize = 64;
+    for t in 0..program.threads.len() {
+        events = events.saturating_add(program.threads.item(t).len());
+    }
+    events
+}
+
 impl World {
     /// The World of a valid program before its first event, and one empty parcel for each thread,
     /// by owner.
@@ -44,6 +54,7 @@ impl World {
         let labels = Prefilled::new(alloc, PAGE_LABELS * program.pages as usize, 0)?;
         let cells = CellWords::new(alloc, threads)?;
         let states = States::fresh(alloc, threads)?;
+        let history = Vec::with_capacity(alloc, events_of(&program))?;
         let parcels = fresh_parcels(alloc, threads as u32)?;
         let world = World {
             alloc,
@@ -54,7 +65,7 @@ impl World {
             cells,
             states,
             commits: 0,
-            history: Vec::new(alloc),
+            history,
         };
         Ok((world, parcels))
     }

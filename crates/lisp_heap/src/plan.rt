@@ -28,6 +28,7 @@ pub struct Plan {
 }
 
 /// Writes the word.
+#[inline(always)]
 pub fn apply(cells: &mut CellWords, space: &mut Space, t: usize, change: Change)
     requires cells { CanChange cells.old space.old t change }
     ensures cells { cells.new ≡ cells_after cells.old t change }

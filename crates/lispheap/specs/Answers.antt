@@ -2,6 +2,7 @@
 -- their causes are this project's own.
 use Rattle.std.specs.Prelude.{◌≡◌, ◌≢◌, ℕ, ◌≤◌, ◌⊎◌, List, [], ◌∷◌, ◌++◌, length, Option, Some, None, Result, Ok, Err, if◌then◌else◌, nat_lt, codes}
 use Rattle.heap_io.specs.Streams.{Stream, Rose, GaveAll, GaveMore, GaveAtMost, Grew}
+use Rattle.heap_terms.specs.declared.limits.TheConstants.{MOST_BYTES}
 use Rattle.heap_terms.specs.declared.programs.Program.{Program}
 use Rattle.heap_terms.specs.ScriptReading.{read_script, Fault as ScriptFault, LineFault, LimitFault}
 use Rattle.lispheap.specs.declared.faults.Fault.{Fault}
@@ -32,7 +33,7 @@ IsReplay words = words ≡ codes "replay" ∷ []
 
 -- how many bytes of input there may be
 abbrev pub input_limit : ℕ
-input_limit = 4194304
+input_limit = MOST_BYTES
 
 -- the source was read to its end, and these were its bytes, not too many
 pub record IsInput (source : Change) (bytes : List ℕ) : Type 0 where

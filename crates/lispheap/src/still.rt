@@ -11,13 +11,13 @@ ghost use Rattle.lispheap.specs.Texts.{status_of};
 use crate::faults::{Fault, put_text, say};
 use crate::journal::journal_of;
 use heap_io::{ReadFault, Sink, Source, read_all};
-use heap_terms::{Memory, Program};
+use heap_terms::{MOST_BYTES, Memory, Program};
 use replay_core::run_history;
 use script_text::{ScriptFault, parse};
 use std::alloc::Global;
 
 /// How many bytes of input there may be.
-const INPUT_LIMIT: u64 = 4_194_304;
+const INPUT_LIMIT: u64 = MOST_BYTES as u64;
 
 /// Does what the words say and answers the status: 0 done, 2 usage, 3 no script, 4 read fault, 5
 /// write fault, 6 a limit, 7 out of memory. The one form of words is `replay`: the source is read

@@ -1,29 +1,27 @@
 -- The pages after a pass: what remains lies on them as it must.
-use Rattle.std.proofs.Common.{◌≡◌, ℕ, zero, suc, ◌+◌, ◌*◌, ◌/◌, ◌%◌, ◌<◌, ◌≤◌, List, [], ◌∷◌, ◌++◌, length, get_or, map, Option, Some, None, Bool, true, false, ◌⊎◌, inl, inr, refl, sym, ◌∙◌, subst, ap, arith}
-use Rattle.std.proofs.lemmas.Bool.{cases_lt, cases_eq, cases_Bool, or_cases, or_left, or_right, or_from, and_parts, and_from, false≢true, eq-eqb, eqb-true, ne_eqb, not-true, not_from_true, not_from_false}
+use Rattle.std.proofs.Common.{◌≡◌, ℕ, suc, ◌+◌, ◌/◌, ◌<◌, List, [], ◌∷◌, length, get_or, Option, Some, None, Bool, true, false, inl, inr, refl, sym, ◌∙◌, subst, ap, arith}
+use Rattle.std.proofs.lemmas.Bool.{cases_lt, cases_Bool, or_cases, or_left, or_right, and_parts, false≢true, eq-eqb, eqb-true, not-true, not_from_true}
 use Rattle.std.proofs.lemmas.List.Folds.{list_any_at}
-use Rattle.std.proofs.lemmas.List.{get_or-map, length-map, get_or_past, get_or_default}
+use Rattle.std.proofs.lemmas.List.{get_or-map, length-map, get_or_past}
 use Rattle.std.proofs.lemmas.Option.{same_Some}
-use Rattle.std.specs.List.{list_any, range_with_len}
-use Rattle.std.specs.Prelude.{All, AllPairs, unwrap_or, is_none, ◌&&◌, ◌||◌, not, ◌==◌, if◌then◌else◌, ◌≢◌, filter}
+use Rattle.std.specs.List.{list_any}
+use Rattle.std.specs.Prelude.{All, is_none, ◌&&◌, ◌||◌, not, ◌==◌, if◌then◌else◌}
 use Rattle.heap_terms.specs.declared.events.PassRecord.{PassRecord}
 use Rattle.heap_terms.specs.declared.events.PinAt.{PinAt}
 use Rattle.heap_terms.specs.declared.events.Placing.{Placing}
 use Rattle.heap_terms.specs.declared.kinds.PageType.{PageType}
 use Rattle.heap_terms.specs.declared.pages.Entry.{Entry}
 use Rattle.heap_terms.specs.declared.pages.Entry.TheVariants.{Free, Used}
-use Rattle.heap_terms.specs.Generations.{has_generation, is_of, names}
 use Rattle.heap_terms.specs.Heap.{NamedHeap, object_at, entry_at}
-use Rattle.heap_terms.specs.Layout.{page_words, page_type_of}
+use Rattle.heap_terms.specs.Layout.{page_words}
 use Rattle.heap_terms.specs.Objects.{Object, Contents, ConsOf, VectorOf, InstanceOf, ClosureOf, WordsOf, WeakTo, TableOf, kind_of, payload_of, words_of_object}
-use Rattle.heap_terms.specs.OnPages.{IsFill, IsEntry, IsPlaced, IsOnPage, IsPageOfRun, AreApart, SaysOfRun, IsInRun}
-use Rattle.heap_terms.specs.Passes.{IsPass, is_listed_move, is_listed_pin, remains, remains_at, order_of, moved_to, object_after, entry_after, pages_after_pass, after_pass, is_held, is_freed, freed_of}
-use Rattle.heap_terms.specs.Placement.{Placement, scratch, placement}
+use Rattle.heap_terms.specs.OnPages.{IsEntry, IsPlaced, IsOnPage, IsPageOfRun}
+use Rattle.heap_terms.specs.Passes.{IsPass, is_listed_move, is_listed_pin, remains, order_of, moved_to, object_after, entry_after, after_pass, is_held, is_freed, freed_of}
+use Rattle.heap_terms.specs.Placement.{scratch, placement}
 use Rattle.heap_terms.specs.Regions.{is_small, pages_needed}
 use Rattle.heap_terms.specs.Sound.{IsSound}
 use Rattle.heap_terms.specs.Survival.{surviving}
 use Rattle.pass_laws.specs.Spread.{settled}
-use Rattle.pass_laws.proofs.Landing.{IsTaken}
 use Rattle.pass_laws.proofs.Lookups.{found_at, in_filter, filter_in, made_at, made_length}
 use Rattle.pass_laws.proofs.Sizes.{needs_least}
 use Rattle.pass_laws.proofs.Spreading.{IsPlacing, IsMoveOf, is_in, placement-keeps, moved_to-none}

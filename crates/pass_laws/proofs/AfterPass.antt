@@ -1,13 +1,13 @@
 -- A pass keeps a heap sound.
-use Rattle.std.proofs.Common.{◌≡◌, ℕ, zero, suc, ◌+◌, ◌-◌, ◌*◌, ◌/◌, ◌%◌, ◌^◌, ◌<◌, ◌≤◌, List, [], ◌∷◌, ◌++◌, length, get_or, map, Option, Some, None, Bool, true, false, ◌⊎◌, inl, inr, refl, sym, ◌∙◌, subst, ap, arith}
-use Rattle.std.proofs.lemmas.Bool.{cases_lt, cases_eq, cases_Bool, or_cases, or_left, or_right, or_from, and_parts, and_from, false≢true, eq-eqb, eqb-true, ne_eqb, not-true, not_from_true, not_from_false}
-use Rattle.std.proofs.lemmas.List.Elements.{All-filter, filter_passes, All-from_get_or, All-get_or}
+use Rattle.std.proofs.Common.{◌≡◌, ℕ, ◌+◌, ◌-◌, ◌/◌, ◌^◌, ◌<◌, ◌≤◌, List, ◌++◌, length, get_or, map, Option, Some, None, Bool, true, false, inl, inr, refl, sym, ◌∙◌, subst, ap, arith}
+use Rattle.std.proofs.lemmas.Bool.{cases_lt, cases_Bool, or_cases, and_parts, false≢true, eqb-true, ne_eqb}
+use Rattle.std.proofs.lemmas.List.Elements.{All-filter, filter_passes}
 use Rattle.std.proofs.lemmas.List.Filters.{length-filter_both}
 use Rattle.std.proofs.lemmas.List.Kept.{AllPairs-filter}
-use Rattle.std.proofs.lemmas.List.{get_or-map, length-map, get_or_past, get_or_default, length-append, get_or_append_left, get_or-append_right}
+use Rattle.std.proofs.lemmas.List.{get_or-map, length-map, get_or_past, get_or_default, get_or_append_left, get_or-append_right}
 use Rattle.std.proofs.lemmas.Option.{same_Some}
-use Rattle.std.specs.List.{list_any, range_with_len}
-use Rattle.std.specs.Prelude.{All, AllPairs, unwrap_or, ◌&&◌, ◌||◌, not, ◌==◌, if◌then◌else◌, ◌≢◌, filter, IsSome, pos}
+use Rattle.std.specs.List.{list_any}
+use Rattle.std.specs.Prelude.{All, unwrap_or, ◌&&◌, ◌||◌, not, ◌==◌, if◌then◌else◌, ◌≢◌, filter, IsSome}
 use Rattle.heap_terms.specs.declared.cells.Value.{Value}
 use Rattle.heap_terms.specs.declared.cells.Value.TheVariants as values
 use Rattle.heap_terms.specs.declared.events.PassRecord.{PassRecord}
@@ -20,22 +20,21 @@ use Rattle.heap_terms.specs.declared.pages.Entry.TheVariants.{Free, Used}
 use Rattle.heap_terms.specs.Generations.{has_generation, is_of}
 use Rattle.heap_terms.specs.Heap.{NamedHeap, object_at, entry_at, zero_value}
 use Rattle.heap_terms.specs.Layout.{page_words}
-use Rattle.heap_terms.specs.Live.{is_live, AreLive, KeepsSides, KeepPairs, Keeps}
-use Rattle.heap_terms.specs.Living.{IsLiving, IsLivingOrUnbound, AreLiving, HoldsLiving, AreBelow, AreDistinctKeys, IsShaped}
+use Rattle.heap_terms.specs.Live.{is_live, AreLive, KeepsSides, Keeps}
+use Rattle.heap_terms.specs.Living.{IsLiving, IsLivingOrUnbound, AreLiving, HoldsLiving, AreBelow, IsShaped}
 use Rattle.heap_terms.specs.Objects.{Object, Contents, ConsOf, VectorOf, InstanceOf, ClosureOf, WordsOf, WeakTo, TableOf, kind_of, payload_of, words_of_object}
 use Rattle.heap_terms.specs.OnPages.{IsFill, IsEntry, IsPlaced, IsOnPage, IsPageOfRun, AreApart, SaysOfRun, IsInRun}
-use Rattle.heap_terms.specs.Passes.{IsPass, remains, remains_at, moved_to, order_of, object_after, entry_after, after_pass, is_held, is_freed}
+use Rattle.heap_terms.specs.Passes.{IsPass, remains, moved_to, order_of, object_after, entry_after, after_pass, is_held, is_freed}
 use Rattle.heap_terms.specs.Placement.{scratch, placement}
 use Rattle.heap_terms.specs.Regions.{is_small, pages_needed}
-use Rattle.heap_terms.specs.Sound.{IsSound, IsObject, IsFinalizer}
-use Rattle.heap_terms.specs.Survival.{keeps_pair, is_kept, surviving, registered, queued_of}
+use Rattle.heap_terms.specs.Sound.{IsSound, IsFinalizer}
+use Rattle.heap_terms.specs.Survival.{keeps_pair, is_kept, surviving, queued_of}
 use Rattle.heap_terms.specs.Layout.{size_of}
 use Rattle.pass_laws.specs.Spread.{settled}
-use Rattle.pass_laws.proofs.AfterPages.{IsSameSpace, IsRegenerated, IsPlaced-regenerated, surviving-kind, surviving-payload, moved_listed, new_generation, object_at-after, spread, entry_is, pages_long, freed_page, page_freed, used_after, not_freed}
-use Rattle.pass_laws.proofs.Landing.{IsTaken}
+use Rattle.pass_laws.proofs.AfterPages.{IsSameSpace, IsPlaced-regenerated, surviving-kind, surviving-payload, moved_listed, new_generation, object_at-after, spread, entry_is, pages_long, freed_page, page_freed, used_after, not_freed}
 use Rattle.pass_laws.proofs.Lookups.{found_at}
-use Rattle.pass_laws.proofs.Sizes.{words_least, small_needs}
-use Rattle.pass_laws.proofs.Spreading.{IsPlacing, is_in}
+use Rattle.pass_laws.proofs.Sizes.{small_needs}
+use Rattle.pass_laws.proofs.Spreading.{IsPlacing}
 
 -- an object that remains, after the pass
 abbrev pub object_then : NamedHeap → PassRecord → ℕ → Object → Object
@@ -97,9 +96,10 @@ zero_living objects = omega arith
 
 pairs_from : (objects : List (Option Object)) (pairs : List (Value × Value)) → AreLiving objects (map (λ pair. pair.0) pairs) → AreLiving objects (map (λ pair. pair.1) pairs) →
     All (PairLiving objects) pairs
-pairs_from objects pairs keys vals k d l =
-    (subst (IsLiving objects) (get_or-map (λ (pair : Value × Value). pair.0) pairs k d zero_value l) (keys k),
-    subst (IsLiving objects) (get_or-map (λ (pair : Value × Value). pair.1) pairs k d zero_value l) (vals k))
+pairs_from objects pairs keys vals k d l = (
+  subst (IsLiving objects) (get_or-map (λ (pair : Value × Value). pair.0) pairs k d zero_value l) (keys k),
+  subst (IsLiving objects) (get_or-map (λ (pair : Value × Value). pair.1) pairs k d zero_value l) (vals k),
+)
 
 from_pairs : (objects : List (Option Object)) (pairs : List (Value × Value)) → All (PairLiving objects) pairs →
     AreLiving objects (map (λ pair. pair.0) pairs) × AreLiving objects (map (λ pair. pair.1) pairs)
@@ -211,8 +211,10 @@ module _ (a : NamedHeap) (g h : ℕ) (r : PassRecord) (sound : IsSound a) (pass 
   holds_after (TableOf w b pairs) holds keeps =
       let live = remains a r in
       let kept = All-filter (is_kept live w) (λ pair. PairLiving a.objects pair × KeepsSides w (is_live live pair.0) (is_live live pair.1)) pairs
-      (λ k d l. (pairs_from a.objects pairs holds.0 holds.1 k d l,
-      subst (λ (pair : Value × Value). KeepsSides w (is_live live pair.0) (is_live live pair.1)) (get_or_default pairs k (zero_value, zero_value) d l) (keeps k))) in
+      (λ k d l. (
+        pairs_from a.objects pairs holds.0 holds.1 k d l,
+        subst (λ (pair : Value × Value). KeepsSides w (is_live live pair.0) (is_live live pair.1)) (get_or_default pairs k (zero_value, zero_value) d l) (keeps k),
+      )) in
       from_pairs (after_pass a r).objects (filter (is_kept live w) pairs) (λ k d l.
       (let both = kept k d l in
       let pair = get_or (filter (is_kept live w) pairs) k d in
@@ -332,10 +334,13 @@ module _ (a : NamedHeap) (g h : ℕ) (r : PassRecord) (sound : IsSound a) (pass 
       go Free at run = rw (entry_is a g h r sound pass page, at) tt
       go (Used ty old fill first k) at run = elim (cases_Bool (list_any (λ freed. freed == page) r.freed)) [
         | inl freed ↦ rw (entry_is a g h r sound pass page, at, freed) tt
-        | inr kept ↦ rw (used_after a g h r sound pass page ty old fill first k at kept) (run.0, run.1,
+        | inr kept ↦ rw (used_after a g h r sound pass page ty old fill first k at kept) (
+          run.0,
+          run.1,
           rw (pages_long a g h r sound pass ∙ sym keeps.lengths) run.2,
           λ i l. mate (first + i) (entry_at (placement a (order_of r)).pages (first + i)) refl (run.3 i l)
-          (freed_mate page (first + i) ty old fill first k at (run.3 i l) kept))
+              (freed_mate page (first + i) ty old fill first k at (run.3 i l) kept),
+        )
       ]
         where
           mate : (p : ℕ) (e : Entry) → entry_at (placement a (order_of r)).pages p ≡ e → SaysOfRun ty old first k e → list_any (λ freed. freed == p) r.freed ≡ false →

@@ -1,10 +1,10 @@
 -- A pass keeps a heap well-formed: what cells hold is live, and stays.
-use Rattle.std.proofs.Common.{◌≡◌, ℕ, ◌+◌, ◌<◌, ◌≤◌, List, [], ◌∷◌, ◌++◌, length, get_or, map, Option, Some, None, Bool, true, false, ◌⊎◌, inl, inr, refl, sym, ◌∙◌, subst, ap, arith}
-use Rattle.std.proofs.lemmas.Bool.{cases_lt, cases_Bool, false≢true, eq-eqb}
+use Rattle.std.proofs.Common.{◌≡◌, ℕ, ◌≤◌, ◌++◌, length, get_or, map, Option, Some, None, Bool, true, false, inl, inr, refl, sym, ◌∙◌, subst, ap, arith}
+use Rattle.std.proofs.lemmas.Bool.{cases_lt, false≢true, eq-eqb}
 use Rattle.std.proofs.lemmas.List.Folds.{list_any_at}
 use Rattle.std.proofs.lemmas.List.{get_or-map, length-map, get_or_past}
 use Rattle.std.specs.List.{list_any}
-use Rattle.std.specs.Prelude.{◌||◌, ◌==◌, if◌then◌else◌, IfSome, IsSome}
+use Rattle.std.specs.Prelude.{◌||◌, ◌==◌, if◌then◌else◌, IsSome}
 use Rattle.heap_terms.specs.declared.cells.Value.{Value}
 use Rattle.heap_terms.specs.declared.cells.Value.TheVariants as values
 use Rattle.heap_terms.specs.declared.events.PassRecord.{PassRecord}
@@ -18,13 +18,12 @@ use Rattle.heap_terms.specs.Live.{is_live, AreLive}
 use Rattle.heap_terms.specs.Objects.{Object, kind_of}
 use Rattle.heap_terms.specs.Passes.{IsPass, remains, order_of, entry_after, after_pass}
 use Rattle.heap_terms.specs.Placement.{scratch, placement}
-use Rattle.heap_terms.specs.Roots.{thread_words, ambiguous_words, hits, is_hit}
-use Rattle.heap_terms.specs.WellFormed.{IsWellFormed, IsThread, IsLiving, AreLiving, IsCollected, IsOpenPage, IsOpenRun}
+use Rattle.heap_terms.specs.Roots.{thread_words, hits, is_hit}
+use Rattle.heap_terms.specs.WellFormed.{IsWellFormed, IsThread, IsLiving, AreLiving, IsCollected}
 use Rattle.heap_terms.specs.Spelling.{word_of}
 use Rattle.pass_laws.specs.NoRegions.{HasNoRegions}
-use Rattle.pass_laws.proofs.AfterPages.{new_generation, spread, entry_is, pages_long, objects_long}
-use Rattle.pass_laws.proofs.AfterPass.{object_then, Remains, remaining, living_after, list_living_after, pass_sound}
-use Rattle.pass_laws.proofs.Landing.{IsTaken}
+use Rattle.pass_laws.proofs.AfterPages.{new_generation, spread, entry_is, pages_long}
+use Rattle.pass_laws.proofs.AfterPass.{remaining, list_living_after, pass_sound}
 use Rattle.pass_laws.proofs.Lookups.{any_left, any-flat_map, all_zero}
 use Rattle.pass_laws.proofs.Spreading.{IsPlacing}
 

@@ -1,21 +1,21 @@
 -- A collection keeps a heap well-formed, and one exists for every heap.
-use Rattle.std.proofs.Common.{◌≡◌, ℕ, zero, suc, ◌+◌, ◌-◌, ◌<◌, ◌≤◌, List, [], ◌∷◌, ◌++◌, length, get_or, set, map, Option, Some, None, Bool, true, false, ◌⊎◌, inl, inr, refl, sym, ◌∙◌, subst, ap, arith}
-use Rattle.std.proofs.lemmas.Bool.{cases_lt, cases_eq, cases_Bool, or_cases, or_left, or_right, and_parts, and_from, ltb-true, lt-ltb, leb-true, false≢true, eqb-true, eq-eqb}
+use Rattle.std.proofs.Common.{◌≡◌, ℕ, zero, suc, ◌+◌, ◌<◌, ◌≤◌, List, [], ◌∷◌, ◌++◌, length, get_or, map, Option, Some, None, Bool, true, false, ◌⊎◌, inl, inr, refl, sym, ◌∙◌, subst, ap, arith}
+use Rattle.std.proofs.lemmas.Bool.{cases_lt, cases_eq, cases_Bool, or_cases, or_left, and_parts, and_from, ltb-true, lt-ltb, leb-true, false≢true, eq-eqb}
 use Rattle.std.proofs.lemmas.List.{get_or-map, length-map, length-set, get_or_past, get_or-set_same, get_or-set_other, set_past}
-use Rattle.std.specs.Prelude.{◌&&◌, ◌||◌, ◌==◌, ◌≢◌, if◌then◌else◌, nat_lt, nat_le, IfSome}
+use Rattle.std.specs.Prelude.{◌&&◌, ◌==◌, nat_lt, nat_le}
 use Rattle.heap_terms.specs.declared.events.PassRecord.{PassRecord}
 use Rattle.heap_terms.specs.declared.kinds.PageType.{PageType}
 use Rattle.heap_terms.specs.declared.kinds.PageType.TheVariants as types
 use Rattle.heap_terms.specs.declared.pages.Entry.{Entry}
 use Rattle.heap_terms.specs.declared.programs.Program.{Program}
 use Rattle.heap_terms.specs.Collections.{closed_thread, closed, after_pass_of, IsPassOf, goes_on_after, ArePasses, after_passes, IsCollection, collected}
-use Rattle.heap_terms.specs.Heap.{NamedHeap, Thread, object_at, entry_at, thread_at, with_thread, open_page, ended_thread, fresh_thread}
+use Rattle.heap_terms.specs.Heap.{NamedHeap, Thread, thread_at, with_thread, open_page, ended_thread, fresh_thread}
 use Rattle.heap_terms.specs.Objects.{Object}
-use Rattle.heap_terms.specs.Passes.{IsPass, after_pass}
-use Rattle.heap_terms.specs.Policy.{promotes, is_raised, is_continued, raises, goes_on, target_of, cum_after, num_after}
+use Rattle.heap_terms.specs.Passes.{after_pass}
+use Rattle.heap_terms.specs.Policy.{promotes, is_raised, is_continued, raises, goes_on, target_of, cum_after}
 use Rattle.heap_terms.specs.WellFormed.{IsWellFormed, IsThread, IsSound}
 use Rattle.pass_laws.specs.NoRegions.{HasNoRegions, IsEmptyBelow}
-use Rattle.pass_laws.proofs.AfterPass.{Remains, remaining}
+use Rattle.pass_laws.proofs.AfterPass.{remaining}
 use Rattle.pass_laws.proofs.AfterRoots.{pass_well_formed}
 use Rattle.pass_laws.proofs.PassExists.{pass_exists}
 
@@ -61,29 +61,31 @@ module _ (p : Program) where
   pass_of-well_formed a last g r low w none pass =
       let h = target_of g (raises a last g) in
       let target : r.target ≤ 5 = subst (λ (x : ℕ). x ≤ 5) (sym pass.target) (target-most a last g low) in
-      let b = pass_well_formed p a g h r w pass none target in
-      (record {
-        sound = record {
-          objects = b.sound.objects;
-          apart = b.sound.apart;
-          entries = b.sound.entries;
-          runs = b.sound.runs;
-          finalizers = b.sound.finalizers;
-          queue = b.sound.queue;
-        };
-        pages_length = b.pages_length;
-        threads_length = b.threads_length;
-        shared_length = b.shared_length;
-        cum_length = cum_long (raises a last g) w.cum_length;
-        num_length = length-set a.num g _ ∙ w.num_length;
-        threads = b.threads;
-        shared = b.shared;
-        objects_collected = b.objects_collected;
-        pages_collected = b.pages_collected;
-        triggered = b.triggered;
-        own_pages = b.own_pages;
-        own_runs = b.own_runs;
-      }, no_regions_after a r none)
+      let b = pass_well_formed p a g h r w pass none target in (
+        record {
+          sound = record {
+            objects = b.sound.objects;
+            apart = b.sound.apart;
+            entries = b.sound.entries;
+            runs = b.sound.runs;
+            finalizers = b.sound.finalizers;
+            queue = b.sound.queue;
+          };
+          pages_length = b.pages_length;
+          threads_length = b.threads_length;
+          shared_length = b.shared_length;
+          cum_length = cum_long (raises a last g) w.cum_length;
+          num_length = length-set a.num g _ ∙ w.num_length;
+          threads = b.threads;
+          shared = b.shared;
+          objects_collected = b.objects_collected;
+          pages_collected = b.pages_collected;
+          triggered = b.triggered;
+          own_pages = b.own_pages;
+          own_runs = b.own_runs;
+        },
+        no_regions_after a r none,
+      )
     where
       cum_long : (raised : Bool) → length a.cum ≡ 7 → length (cum_after a g raised) ≡ 7
       cum_long true long = length-set _ g 0 ∙ length-set a.cum (g + 1) _ ∙ long

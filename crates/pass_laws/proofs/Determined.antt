@@ -1,15 +1,14 @@
 -- The order of the names that a pass takes determines its record.
-use Rattle.std.proofs.Common.{◌≡◌, ℕ, zero, suc, ◌+◌, ◌<◌, ◌≤◌, List, [], ◌∷◌, length, get_or, map, Option, Some, None, Bool, true, false, ◌⊎◌, inl, inr, refl, sym, ◌∙◌, subst, ap, arith}
-use Rattle.std.proofs.lemmas.Bool.{cases_lt, cases_eq, cases_Bool, false≢true, eqb-true}
+use Rattle.std.proofs.Common.{◌≡◌, ℕ, zero, suc, ◌+◌, ◌<◌, List, [], ◌∷◌, length, get_or, map, inl, inr, refl, sym, ◌∙◌, subst, ap, arith}
+use Rattle.std.proofs.lemmas.Bool.{cases_eq, eqb-true}
 use Rattle.std.proofs.lemmas.List.{get_or_default}
 use Rattle.std.proofs.lemmas.Option.{same_Some}
-use Rattle.std.specs.List.{list_any}
-use Rattle.std.specs.Prelude.{All, AllPairs, ◌==◌}
+use Rattle.std.specs.Prelude.{AllPairs, ◌==◌}
 use Rattle.heap_terms.specs.declared.events.Cull.{Cull}
 use Rattle.heap_terms.specs.declared.events.PassRecord.{PassRecord}
 use Rattle.heap_terms.specs.declared.events.PinAt.{PinAt}
 use Rattle.heap_terms.specs.declared.events.Placing.{Placing}
-use Rattle.heap_terms.specs.Collections.{closed, after_pass_of, goes_on_after, IsPassOf, ArePasses, IsCollection}
+use Rattle.heap_terms.specs.Collections.{closed, after_pass_of, ArePasses, IsCollection}
 use Rattle.heap_terms.specs.Heap.{NamedHeap, object_at}
 use Rattle.heap_terms.specs.Objects.{Object}
 use Rattle.heap_terms.specs.Passes.{IsPass, ArePins, remains, order_of, freed_of, dead_of, kept_of}

@@ -1,16 +1,15 @@
 -- What the lowest run of free pages is, and the entries after a run was taken.
-use Rattle.std.proofs.Common.{◌≡◌, ℕ, zero, suc, ◌+◌, ◌-◌, ◌*◌, ◌/◌, ◌<◌, ◌≤◌, List, [], ◌∷◌, ◌++◌, length, get_or, take, drop, replicate, Option, Some, None, Bool, true, false, ◌⊎◌, inl, inr, refl, sym, ◌∙◌, subst, ap, arith}
-use Rattle.std.proofs.lemmas.Bool.{cases_lt, cases_eq, cases_Bool, and_parts, and_from, leb-true, le-leb, false≢true}
+use Rattle.std.proofs.Common.{◌≡◌, ℕ, zero, suc, ◌+◌, ◌-◌, ◌*◌, ◌<◌, ◌≤◌, List, [], ◌∷◌, ◌++◌, length, get_or, take, drop, replicate, Some, None, Bool, true, false, inl, inr, refl, sym, ◌∙◌, subst, ap, arith}
+use Rattle.std.proofs.lemmas.Bool.{cases_eq, cases_Bool, and_parts, and_from, leb-true, le-leb, false≢true}
 use Rattle.std.proofs.lemmas.List.{length-append, length-take, length-take-le, length-drop, length-replicate, get_or_append_left, get_or-append_right, get_or-take, get_or-drop, get_or-replicate, get_or_default}
 use Rattle.std.proofs.lemmas.List.Sums.{AllPass-from_list_all, list_all-from_AllPass}
 use Rattle.std.proofs.lemmas.Option.{same_Some}
 use Rattle.std.specs.List.{list_all, range_with_len}
-use Rattle.std.specs.Prelude.{find, ◌&&◌, if◌then◌else◌, nat_le}
+use Rattle.std.specs.Prelude.{find, if◌then◌else◌, nat_le}
 use Rattle.heap_terms.specs.declared.kinds.PageType.{PageType}
 use Rattle.heap_terms.specs.declared.pages.Entry.{Entry}
 use Rattle.heap_terms.specs.declared.pages.Entry.TheVariants.{Free, Used}
 use Rattle.heap_terms.specs.Heap.{entry_at}
-use Rattle.heap_terms.specs.Layout.{page_words}
 use Rattle.heap_terms.specs.Placement.{scratch, is_free_run, lowest_run, taken_run}
 use Rattle.heap_terms.specs.Regions.{is_free, IsFreeRun, IsLowestRun, HasNoRun}
 
@@ -38,7 +37,7 @@ free_run pages k first e =
     record {
       inside = inside;
       free = λ i l. free_entry (entry_at pages (first + i)) (
-          let at : is_free (get_or (take k (drop first pages)) i Free) ≡ true = all i Free (simp (length-take-le, length-take, length-drop) (omega arith)) in
+          let at : is_free (get_or (take k (drop first pages)) i Free) ≡ true = all i Free (simp (length-take, length-drop) (omega arith)) in
           let same : get_or (take k (drop first pages)) i Free ≡ entry_at pages (first + i) = get_or-take k (drop first pages) i Free l ∙ get_or-drop first pages i Free in
           subst (λ (x : Entry). is_free x ≡ true) same at);
     }

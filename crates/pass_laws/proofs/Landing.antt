@@ -1,22 +1,21 @@
 -- One step of a placement: where an object goes, what that changes in the pages, and that it lies there as it must.
-use Rattle.std.proofs.Common.{◌≡◌, ℕ, zero, suc, ◌+◌, ◌-◌, ◌*◌, ◌/◌, ◌%◌, ◌<◌, ◌≤◌, List, [], ◌∷◌, ◌++◌, length, get_or, set, Option, Some, None, Bool, true, false, ◌⊎◌, inl, inr, refl, sym, ◌∙◌, subst, ap, arith}
-use Rattle.std.proofs.lemmas.Bool.{cases_lt, cases_eq, cases_Bool, and_parts, and_cases, leb-true, leb-false, false≢true}
+use Rattle.std.proofs.Common.{◌≡◌, ℕ, ◌+◌, ◌-◌, ◌*◌, ◌/◌, ◌%◌, ◌<◌, ◌≤◌, List, length, set, Some, true, false, ◌⊎◌, inl, inr, refl, sym, ◌∙◌, subst, arith}
+use Rattle.std.proofs.lemmas.Bool.{cases_lt, cases_eq, false≢true}
 use Rattle.std.proofs.lemmas.List.{length-set, get_or-set_same, get_or-set_other, get_or_past}
 use Rattle.std.proofs.lemmas.Option.{same_Some}
-use Rattle.std.specs.Prelude.{option_map, ◌&&◌, if◌then◌else◌, ◌≢◌}
 use Rattle.heap_terms.specs.declared.kinds.PageType.{PageType}
 use Rattle.heap_terms.specs.declared.kinds.PageType.TheVariants as types
 use Rattle.heap_terms.specs.declared.pages.Entry.{Entry}
 use Rattle.heap_terms.specs.declared.pages.Entry.TheVariants.{Free, Used}
 use Rattle.heap_terms.specs.Heap.{entry_at, fill_of}
-use Rattle.heap_terms.specs.Layout.{page_words, page_type_of}
+use Rattle.heap_terms.specs.Layout.{page_type_of}
 use Rattle.heap_terms.specs.Objects.{Object, kind_of, words_of_object}
-use Rattle.heap_terms.specs.Placement.{Placement, scratch, page_in_use, using_page, fits_on, end_of, goes_to, lowest_run, taken_run, filled}
+use Rattle.heap_terms.specs.Placement.{Placement, scratch, page_in_use, using_page, taken_run}
 use Rattle.heap_terms.specs.Regions.{is_small, pages_needed}
-use Rattle.heap_terms.specs.OnPages.{IsFill, IsPlaced, IsOnPage, IsPageOfRun, SaysOfRun, IsInRun}
+use Rattle.heap_terms.specs.OnPages.{IsFill, IsPlaced, SaysOfRun, IsInRun}
 use Rattle.pass_laws.specs.Spread.{moved_object}
-use Rattle.pass_laws.proofs.FreeRuns.{AreFree, lowest_free, IsTakenRun, taken_entries}
-use Rattle.pass_laws.proofs.Sizes.{IsBelowFill, words_least, words_even, small_most, large_least, small_needs, large_needs, needs_least}
+use Rattle.pass_laws.proofs.FreeRuns.{AreFree, IsTakenRun, taken_entries}
+use Rattle.pass_laws.proofs.Sizes.{IsBelowFill, words_least, words_even, large_least, large_needs, needs_least}
 
 -- a page that the pass took: it has the scratch generation
 pub record IsTaken (e : Entry) : Type 0 where
@@ -132,17 +131,26 @@ small_lands s o page fill used small h =
       in_use = λ other q f. elim (in_use_cases (record s { pages = pages }) ty page other q f) [
         | inl now ↦ rw (same, now.0, now.1) (fill + size, here, is_fill)
         | inr before ↦ (let was = used other q before in elim (cases_eq q page) [
-          | inl is ↦ rw (same, is) (fill + size, here ∙ (elim h.entry [
-            | inl there ↦ (let both : Used other scratch was.0 q 1 ≡ Used ty scratch fill page 1 = sym was.1 ∙ (subst (λ (x : ℕ). entry_at s.pages x ≡ Used ty scratch fill page 1) (sym is) there) in
-                let types_same : other ≡ ty = cc in rw types_same refl)
-            | inr free ↦ (let both : Used other scratch was.0 q 1 ≡ Free = sym was.1 ∙ (subst (λ (x : ℕ). entry_at s.pages x ≡ Free) (sym is) free.0) in cc)
-          ]), is_fill)
+          | inl is ↦ rw (same, is) (
+            fill + size,
+            here ∙ (elim h.entry [
+              | inl there ↦ (let both : Used other scratch was.0 q 1 ≡ Used ty scratch fill page 1 = sym was.1 ∙ (subst (λ (x : ℕ). entry_at s.pages x ≡ Used ty scratch fill page 1) (sym is) there) in
+                  let types_same : other ≡ ty = cc in rw types_same refl)
+              | inr free ↦ (let both : Used other scratch was.0 q 1 ≡ Free = sym was.1 ∙ (subst (λ (x : ℕ). entry_at s.pages x ≡ Free) (sym is) free.0) in cc)
+            ]),
+            is_fill,
+          )
           | inr apart ↦ rw same (was.0, get_or-set_other s.pages page q e Free apart ∙ was.1, was.2)
         ])
       ];
       runs = λ q free. elim (cases_eq q page) [
-        | inl is ↦ rw (same, is, here) (omega arith, omega arith, rw (length-set s.pages page e) (omega arith), λ i l.
-          (let at : page + i ≡ page = omega arith in rw (at, here) (refl, refl, refl, refl)))
+        | inl is ↦ rw (same, is, here) (
+          omega arith,
+          omega arith,
+          rw (length-set s.pages page e) (omega arith),
+          λ i l.
+              (let at : page + i ≡ page = omega arith in rw (at, here) (refl, refl, refl, refl)),
+        )
         | inr apart ↦ rw (same, get_or-set_other s.pages page q e Free apart, free) tt
       ];
     }
@@ -188,11 +196,29 @@ large_lands s o first used large h =
           | inl m ↦ (let at : first + (q - first) ≡ q = omega arith in
               let free : entry_at s.pages q ≡ Free = subst (λ (x : ℕ). entry_at s.pages x ≡ Free) at (h.free (q - first) (omega arith)) in
               elim (cases_lt ((q - first) + 1) k) [
-                | inl more ↦ inr (inl (free, record { ty = ty; fill = 512; first = first; count = k; is_fill = full_fill;
-                  entry = subst (λ (x : ℕ). entry_at pages x ≡ Used ty scratch 512 first k) at (run.full (q - first) more) }))
+                | inl more ↦ inr (inl (
+                  free,
+                  record {
+                    ty = ty;
+                    fill = 512;
+                    first = first;
+                    count = k;
+                    is_fill = full_fill;
+                    entry = subst (λ (x : ℕ). entry_at pages x ≡ Used ty scratch 512 first k) at (run.full (q - first) more);
+                  },
+                ))
                 | inr end ↦ (let at' : first + (k - 1) ≡ q = omega arith in
-                    inr (inl (free, record { ty = ty; fill = size - 512 * (k - 1); first = first; count = k; is_fill = last_fill;
-                      entry = subst (λ (x : ℕ). entry_at pages x ≡ Used ty scratch (size - 512 * (k - 1)) first k) at' run.last })))
+                    inr (inl (
+                      free,
+                      record {
+                        ty = ty;
+                        fill = size - 512 * (k - 1);
+                        first = first;
+                        count = k;
+                        is_fill = last_fill;
+                        entry = subst (λ (x : ℕ). entry_at pages x ≡ Used ty scratch (size - 512 * (k - 1)) first k) at' run.last;
+                      },
+                    )))
               ])
         ]
       ];

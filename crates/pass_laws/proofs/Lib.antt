@@ -14,3 +14,5 @@ pub mod Collecting
 pub mod Reaching
 pub mod Determined
 pub mod Ranges
+pub mod Checking
+pub mod Told

@@ -1,17 +1,17 @@
 -- Live names exist: from no name on, what the members keep is added until nothing new comes.
-use Rattle.std.proofs.Common.{◌≡◌, ℕ, zero, suc, ◌+◌, ◌<◌, ◌≤◌, List, [], ◌∷◌, length, get_or, Option, Some, None, Bool, true, false, ◌⊎◌, inl, inr, refl, sym, ◌∙◌, subst, ap, arith}
+use Rattle.std.proofs.Common.{◌≡◌, ℕ, zero, suc, ◌+◌, ◌<◌, ◌≤◌, List, [], ◌∷◌, length, get_or, Option, Some, None, Bool, true, false, ◌⊎◌, inl, inr, refl, sym, ◌∙◌, subst, arith}
 use Rattle.std.proofs.lemmas.Bool.{cases_lt, cases_eq, cases_Bool, or_cases, or_left, or_right, and_parts, and_from, lt-ltb, ltb-true, false≢true, eqb-true, eq-eqb, not_from_false, not-true}
 use Rattle.std.proofs.lemmas.List.Folds.{Any-from_list_any, list_any_at}
 use Rattle.std.proofs.lemmas.List.FromFn.{length-range_with_len, get_or-range_with_len}
 use Rattle.std.proofs.lemmas.List.{get_or_past}
 use Rattle.std.specs.List.{list_any, range_with_len}
-use Rattle.std.specs.Prelude.{◌&&◌, ◌||◌, not, ◌==◌, ◌≢◌, nat_lt, if◌then◌else◌, IsSome}
+use Rattle.std.specs.Prelude.{◌&&◌, ◌||◌, not, ◌==◌, ◌≢◌, nat_lt, if◌then◌else◌}
 use Rattle.heap_terms.specs.declared.cells.Value.{Value}
 use Rattle.heap_terms.specs.declared.cells.Value.TheVariants as values
 use Rattle.heap_terms.specs.declared.kinds.Weakness.{Weakness}
 use Rattle.heap_terms.specs.declared.kinds.Weakness.TheVariants as weaknesses
 use Rattle.heap_terms.specs.Heap.{NamedHeap, Thread, object_at, thread_at, ended_thread, fresh_thread, zero_value}
-use Rattle.heap_terms.specs.Live.{is_live, AreLive, KeepsSides, KeepPairs, Keeps, IsClosed, AreLiveNames}
+use Rattle.heap_terms.specs.Live.{is_live, AreLive, KeepsSides, Keeps, IsClosed, AreLiveNames}
 use Rattle.heap_terms.specs.Objects.{Object, Contents, ConsOf, VectorOf, InstanceOf, ClosureOf, WordsOf, WeakTo, TableOf}
 use Rattle.heap_terms.specs.Roots.{is_hit, ambiguous_words}
 
@@ -69,7 +69,7 @@ is_root a g name =
     is_other g (object_at a.objects name) || (list_any (thread_refers name) a.threads || (list_any (refers name) a.shared || is_hit a name))
 
 -- one step: the members, the roots, and what the members keep
-pub step : NamedHeap → ℕ → (ℕ → Bool) → ℕ → Bool
+unfoldable pub step : NamedHeap → ℕ → (ℕ → Bool) → ℕ → Bool
 step a g set name =
     set name || (nat_lt name (length a.objects)
     && (is_root a g name || list_any (λ m. set m && reaches_from set name (object_at a.objects m)) (range_with_len 0 (length a.objects))))
@@ -237,7 +237,7 @@ unfolding step
 step_from a g set name l e = or_right (set name) _ (and_from _ _ (lt-ltb name (length a.objects) l) e)
 
 -- then the set is closed
-fixed_closed : (a : NamedHeap) (g : ℕ) (set : ℕ → Bool) → AllBelow a → IsFixed a g set → IsClosed a g set
+pub fixed_closed : (a : NamedHeap) (g : ℕ) (set : ℕ → Bool) → AllBelow a → IsFixed a g set → IsClosed a g set
 fixed_closed a g set below fixed = record {
   others = λ name o e apart. fixed name (step_from a g set name (object_below a.objects name o e)
       (or_left (is_root a g name) _ (or_left (is_other g (object_at a.objects name)) _ (rw e (not_from_false (o.generation == g) (not_same o.generation g apart))))));
@@ -274,7 +274,7 @@ fixed_closed a g set below fixed = record {
         (rw at (and_from (set m) _ in_set (rw e f)))
 
 -- every closed set has what is added
-step_least : (a : NamedHeap) (g : ℕ) (set other : ℕ → Bool) → IsClosed a g other → ((name : ℕ) → set name ≡ true → other name ≡ true) →
+pub step_least : (a : NamedHeap) (g : ℕ) (set other : ℕ → Bool) → IsClosed a g other → ((name : ℕ) → set name ≡ true → other name ≡ true) →
     (name : ℕ) → step a g set name ≡ true → other name ≡ true
 unfolding step
 step_least a g set other closed more name e = elim (or_cases (set name) _ e) [
@@ -367,7 +367,7 @@ how_many-grows set more (suc n) name h l old new = elim (cases_eq name n) [
 abbrev pub AddsOne : NamedHeap → ℕ → (ℕ → Bool) → Type 0
 AddsOne a g set = (name : ℕ) × (name < length a.objects) × (step a g set name ≡ true) × (set name ≡ false)
 
-step_below : (a : NamedHeap) (g : ℕ) (set : ℕ → Bool) (name : ℕ) → step a g set name ≡ true → set name ≡ false → name < length a.objects
+pub step_below : (a : NamedHeap) (g : ℕ) (set : ℕ → Bool) (name : ℕ) → step a g set name ≡ true → set name ≡ false → name < length a.objects
 unfolding step
 step_below a g set name e gone = elim (or_cases (set name) _ e) [
   | inl here ↦ absurd (false≢true (sym gone ∙ here))

@@ -1,19 +1,18 @@
 -- In a well-formed heap there are live names, and each of them is there.
-use Rattle.std.proofs.Common.{◌≡◌, ℕ, zero, suc, ◌+◌, ◌<◌, ◌≤◌, List, [], ◌∷◌, length, get_or, map, Option, Some, None, Bool, true, false, ◌⊎◌, inl, inr, refl, sym, ◌∙◌, subst, ap, arith}
-use Rattle.std.proofs.lemmas.Bool.{cases_lt, cases_eq, cases_Bool, or_cases, or_left, or_right, and_parts, and_from, lt-ltb, ltb-true, false≢true, eqb-true, eq-eqb, not_from_false, not-true}
-use Rattle.std.proofs.lemmas.List.{get_or-map, length-map, get_or_past}
+use Rattle.std.proofs.Common.{◌≡◌, ℕ, ◌<◌, List, [], ◌∷◌, length, get_or, Option, Some, None, Bool, true, false, inl, inr, refl, sym, ◌∙◌, subst, arith}
+use Rattle.std.proofs.lemmas.Bool.{cases_lt, cases_Bool, or_cases, and_parts, and_from, false≢true, eqb-true}
+use Rattle.std.proofs.lemmas.List.{get_or-map, get_or_past}
 use Rattle.std.specs.List.{list_any}
-use Rattle.std.specs.Prelude.{◌&&◌, ◌||◌, not, ◌==◌, ◌≢◌, IsSome, is_some}
+use Rattle.std.specs.Prelude.{◌&&◌, IsSome, is_some}
 use Rattle.heap_terms.specs.declared.cells.Value.{Value}
 use Rattle.heap_terms.specs.declared.cells.Value.TheVariants as values
-use Rattle.heap_terms.specs.declared.kinds.Weakness.{Weakness}
 use Rattle.heap_terms.specs.declared.programs.Program.{Program}
 use Rattle.heap_terms.specs.Heap.{NamedHeap, Thread, object_at, thread_at, ended_thread, fresh_thread, zero_value}
-use Rattle.heap_terms.specs.Live.{is_live, AreLive, KeepsSides, KeepPairs, Keeps, IsClosed, AreLiveNames}
+use Rattle.heap_terms.specs.Live.{is_live, AreLive, KeepsSides, Keeps, AreLiveNames}
 use Rattle.heap_terms.specs.Objects.{Object, Contents, ConsOf, VectorOf, InstanceOf, ClosureOf, WordsOf, WeakTo, TableOf}
 use Rattle.heap_terms.specs.Roots.{is_hit, ambiguous_words}
-use Rattle.heap_terms.specs.WellFormed.{IsWellFormed, IsThread, IsLiving, AreLiving, HoldsLiving}
-use Rattle.pass_laws.proofs.LiveNames.{refers, pair_reaches, keeps_value, keeps_key, reaches, AllBelow, object_below, live_names}
+use Rattle.heap_terms.specs.WellFormed.{IsWellFormed, IsLiving, AreLiving, HoldsLiving}
+use Rattle.pass_laws.proofs.LiveNames.{refers, pair_reaches, keeps_value, reaches, AllBelow, live_names}
 use Rattle.pass_laws.proofs.Lookups.{found_at, all_zero}
 
 -- an object that is there has a name below the number of objects
@@ -67,10 +66,11 @@ exact_living p a w t = elim (cases_lt t (length p.threads)) [
 
 -- every value refers to an object that is there
 pub all_below : (p : Program) (a : NamedHeap) → IsWellFormed p a → AllBelow a
-all_below p a w =
-    (λ t x e. list_below a.objects (thread_at a t).exact x (exact_living p a w t) e,
-    λ x e. list_below a.objects a.shared x w.shared e,
-    λ m o set x at e. contents_below a.objects o.contents set x (w.sound.objects m o at).contents e)
+all_below p a w = (
+  λ t x e. list_below a.objects (thread_at a t).exact x (exact_living p a w t) e,
+  λ x e. list_below a.objects a.shared x w.shared e,
+  λ m o set x at e. contents_below a.objects o.contents set x (w.sound.objects m o at).contents e,
+)
 
 -- live values among those that are there
 both_live : (objects : List (Option Object)) (live : ℕ → Bool) (v : Value) → IsLiving objects v → is_live (λ x. live x && is_some (object_at objects x)) v ≡ is_live live v

@@ -1,11 +1,11 @@
 -- Looking into lists that a test picks from, or that a function makes of all numbers up to a length.
-use Rattle.std.proofs.Common.{◌≡◌, ℕ, zero, suc, ◌+◌, ◌<◌, ◌≤◌, List, [], ◌∷◌, ◌++◌, length, get_or, map, replicate, Option, Some, None, Bool, true, false, ◌⊎◌, inl, inr, refl, sym, ◌∙◌, subst, ap, arith}
-use Rattle.std.proofs.lemmas.Bool.{cases_lt, cases_eq, cases_Bool, or_cases, or_left, or_right, and_parts, and_from, false≢true, eq-eqb, eqb-true}
-use Rattle.std.proofs.lemmas.List.Folds.{Any-from_list_any, list_any_at}
-use Rattle.std.proofs.lemmas.List.FromFn.{length-range_with_len, length-map-range_with_len, get_or-range_with_len, get_or-map-range_with_len}
+use Rattle.std.proofs.Common.{◌≡◌, ℕ, zero, suc, ◌+◌, ◌<◌, ◌≤◌, List, [], ◌∷◌, ◌++◌, length, get_or, map, replicate, Bool, true, inl, inr, sym, ◌∙◌, subst, arith}
+use Rattle.std.proofs.lemmas.Bool.{cases_lt, cases_eq, cases_Bool, or_cases, or_left, or_right, false≢true, eq-eqb, eqb-true}
+use Rattle.std.proofs.lemmas.List.Folds.{Any-from_list_any}
+use Rattle.std.proofs.lemmas.List.FromFn.{length-map-range_with_len, get_or-map-range_with_len}
 use Rattle.std.proofs.lemmas.List.{get_or_past, get_or_default, get_or-replicate, length-replicate}
 use Rattle.std.specs.List.{list_any, range_with_len}
-use Rattle.std.specs.Prelude.{All, AllPairs, filter, flat_map, ◌||◌, ◌==◌, if◌then◌else◌, ◌≢◌}
+use Rattle.std.specs.Prelude.{filter, flat_map, ◌||◌, ◌==◌}
 use Rattle.heap_terms.specs.Heap.{zero_value}
 
 -- what some test finds in a list, at its place

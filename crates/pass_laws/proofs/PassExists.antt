@@ -1,24 +1,22 @@
 -- A pass exists over every generation of a well-formed heap.
-use Rattle.std.proofs.Common.{◌≡◌, ℕ, zero, suc, ◌+◌, ◌<◌, ◌≤◌, List, [], ◌∷◌, ◌++◌, length, get_or, map, Option, Some, None, Bool, true, false, ◌⊎◌, inl, inr, refl, sym, ◌∙◌, subst, ap, arith}
-use Rattle.std.proofs.lemmas.Bool.{cases_lt, cases_eq, cases_Bool, or_cases, or_left, or_right, or_from, and_parts, and_from, false≢true, eq-eqb, eqb-true, not-true, not_from_false, not_from_true}
+use Rattle.std.proofs.Common.{◌≡◌, ℕ, suc, ◌<◌, List, [], ◌∷◌, ◌++◌, length, get_or, map, Option, Some, None, Bool, true, false, inl, inr, refl, sym, ◌∙◌, subst, ap, arith}
+use Rattle.std.proofs.lemmas.Bool.{cases_Bool, or_cases, or_left, or_right, and_parts, and_from, false≢true, eq-eqb, eqb-true, not-true, not_from_false}
 use Rattle.std.proofs.lemmas.List.Elements.{filter_passes}
-use Rattle.std.proofs.lemmas.List.Folds.{list_any_at}
 use Rattle.std.proofs.lemmas.List.FromFn.{get_or-range_with_len, length-range_with_len}
 use Rattle.std.proofs.lemmas.List.Kept.{AllPairs-filter}
 use Rattle.std.proofs.lemmas.List.{get_or-map, length-map, map_push, append_assoc, append-nil}
-use Rattle.std.proofs.lemmas.Option.{same_Some}
 use Rattle.std.specs.List.{list_any, range_with_len}
-use Rattle.std.specs.Prelude.{All, AllPairs, filter, ◌&&◌, ◌||◌, not, ◌==◌, ◌≢◌, if◌then◌else◌, IsSome}
+use Rattle.std.specs.Prelude.{AllPairs, filter, ◌&&◌, ◌||◌, not, ◌==◌, ◌≢◌, IsSome}
 use Rattle.heap_terms.specs.declared.events.PassRecord.{PassRecord}
 use Rattle.heap_terms.specs.declared.events.PinAt.{PinAt}
 use Rattle.heap_terms.specs.declared.events.Placing.{Placing}
 use Rattle.heap_terms.specs.declared.programs.Program.{Program}
-use Rattle.heap_terms.specs.Generations.{has_generation, is_of, names}
+use Rattle.heap_terms.specs.Generations.{is_of, names}
 use Rattle.heap_terms.specs.Heap.{NamedHeap, object_at}
 use Rattle.heap_terms.specs.Layout.{page_type_of}
-use Rattle.heap_terms.specs.Live.{is_live, AreLive, Keeps, IsClosed, AreLiveNames}
+use Rattle.heap_terms.specs.Live.{AreLiveNames}
 use Rattle.heap_terms.specs.Objects.{Object, kind_of, words_of_object}
-use Rattle.heap_terms.specs.Passes.{IsPass, ArePins, is_listed_move, is_listed_pin, remains, remains_at, order_of, freed_of, dead_of, kept_of}
+use Rattle.heap_terms.specs.Passes.{IsPass, is_listed_move, is_listed_pin, remains, remains_at, freed_of, dead_of, kept_of}
 use Rattle.heap_terms.specs.Placement.{Placement, no_placement, goes_to, filled, with_move, place_object, placing_from, placement}
 use Rattle.heap_terms.specs.Roots.{is_hit, is_pinned}
 use Rattle.heap_terms.specs.Survival.{culls_of, breaks_of, queued_of}
@@ -26,7 +24,7 @@ use Rattle.heap_terms.specs.WellFormed.{IsWellFormed}
 use Rattle.pass_laws.proofs.LiveNames.{object_below}
 use Rattle.pass_laws.proofs.LiveThere.{live_there, live_exist}
 use Rattle.pass_laws.proofs.Lookups.{found_at, in_filter, filter_in}
-use Rattle.pass_laws.proofs.PinLists.{pins_of, pins_are, pinned_there}
+use Rattle.pass_laws.proofs.PinLists.{pins_of, pins_are}
 use Rattle.pass_laws.proofs.Spreading.{filled-moves}
 
 -- the name of a move
@@ -177,7 +175,7 @@ module _ (p : Program) (a : NamedHeap) (g h : ℕ) (w : IsWellFormed p a) (live 
         | inr other ↦ or_left _ _ (not_from_false _ other)
         | inl young ↦ elim (cases_Bool (is_pinned a g x)) [
           | inl pinned ↦ or_right (not (o.generation == (bare_record a g h live).generation)) _ (or_right (is_listed_move (bare_record a g h live) x) _
-            (subst (λ (ps : List PinAt). list_any (λ (q : PinAt). q.name == x) ps ≡ true) (sym pins_is) ((pins_are a w.sound g).all x pinned)))
+              (subst (λ (ps : List PinAt). list_any (λ (q : PinAt). q.name == x) ps ≡ true) (sym pins_is) ((pins_are a w.sound g).all x pinned)))
           | inr free ↦ or_right (not (o.generation == (bare_record a g h live).generation)) _ (or_left _ _ (live_moved x (to_move-from a g live x (rw at (rw generation_is at young)) e free) (object_below a.objects x o at)))
         ]
       ]

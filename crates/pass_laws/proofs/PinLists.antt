@@ -1,16 +1,14 @@
 -- The pinned names in the order of their indices.
-use Rattle.std.proofs.Common.{◌≡◌, ℕ, zero, suc, ◌+◌, ◌<◌, ◌≤◌, List, [], ◌∷◌, length, get_or, Option, Some, None, Bool, true, false, ◌⊎◌, inl, inr, refl, sym, ◌∙◌, subst, ap, arith}
-use Rattle.std.proofs.lemmas.Bool.{cases_lt, cases_eq, cases_Bool, and_parts, or_left, or_right, leb-true, leb-false, false≢true, eq-eqb}
+use Rattle.std.proofs.Common.{◌≡◌, ℕ, zero, suc, ◌+◌, ◌<◌, ◌≤◌, List, [], ◌∷◌, length, Option, Some, None, Bool, true, false, inl, inr, refl, sym, ◌∙◌, subst, ap, arith}
+use Rattle.std.proofs.lemmas.Bool.{cases_eq, cases_Bool, and_parts, or_left, or_right, leb-true, leb-false, false≢true, eq-eqb}
 use Rattle.std.proofs.lemmas.List.Elements.{All-nil, All-cons, All-head, All-tail, All-weaker}
 use Rattle.std.proofs.lemmas.List.Kept.{AllPairs-cons}
-use Rattle.std.proofs.lemmas.Option.{same_Some}
 use Rattle.std.specs.List.{list_any, range_with_len}
-use Rattle.std.specs.Prelude.{All, AllPairs, ◌||◌, ◌&&◌, ◌==◌, ◌≢◌, if◌then◌else◌, nat_le}
+use Rattle.std.specs.Prelude.{All, AllPairs, ◌||◌, ◌==◌, ◌≢◌, if◌then◌else◌, nat_le}
 use Rattle.heap_terms.specs.declared.events.PinAt.{PinAt}
 use Rattle.heap_terms.specs.Generations.{has_generation, is_of, names}
 use Rattle.heap_terms.specs.Heap.{NamedHeap, object_at}
 use Rattle.heap_terms.specs.Objects.{Object}
-use Rattle.heap_terms.specs.OnPages.{AreApart}
 use Rattle.heap_terms.specs.Passes.{ArePins}
 use Rattle.heap_terms.specs.Roots.{is_pinned, is_hit}
 use Rattle.heap_terms.specs.Sound.{IsSound}

@@ -1,13 +1,12 @@
 -- The numbers in the record of a pass are in their ranges.
-use Rattle.std.proofs.Common.{◌≡◌, ℕ, zero, suc, ◌+◌, ◌*◌, ◌^◌, ◌<◌, ◌≤◌, List, [], ◌∷◌, ◌++◌, length, get_or, map, Option, Some, None, Bool, true, false, ◌⊎◌, inl, inr, refl, sym, ◌∙◌, subst, ap, arith}
-use Rattle.std.proofs.lemmas.Bool.{cases_lt, cases_eq, cases_Bool, false≢true, eqb-true, eq-eqb, ne_eqb}
+use Rattle.std.proofs.Common.{◌≡◌, ℕ, zero, suc, ◌+◌, ◌*◌, ◌^◌, ◌<◌, ◌≤◌, List, [], ◌∷◌, length, get_or, Option, Some, None, true, inl, inr, refl, sym, ◌∙◌, subst, ap, arith}
+use Rattle.std.proofs.lemmas.Bool.{cases_Bool, false≢true, eq-eqb, ne_eqb}
 use Rattle.std.proofs.lemmas.List.Elements.{All-nil, All-cons, All-append, All-filter, All-map}
 use Rattle.std.proofs.lemmas.List.FromFn.{length-range_with_len, get_or-range_with_len}
 use Rattle.std.proofs.lemmas.List.Sums.{count_by-le-length}
-use Rattle.std.proofs.lemmas.List.{get_or-map, get_or_default}
-use Rattle.std.proofs.lemmas.Option.{same_Some}
+use Rattle.std.proofs.lemmas.List.{get_or-map}
 use Rattle.std.specs.List.{range_with_len}
-use Rattle.std.specs.Prelude.{All, AllPairs, filter, flat_map, not, ◌==◌, ◌≢◌, if◌then◌else◌, IsSome}
+use Rattle.std.specs.Prelude.{All, AllPairs, filter, flat_map, not, ◌≢◌, IsSome}
 use Rattle.heap_terms.specs.declared.cells.Value.{Value}
 use Rattle.heap_terms.specs.declared.cells.Value.TheVariants as values
 use Rattle.heap_terms.specs.declared.events.Cull.{Cull}
@@ -17,24 +16,24 @@ use Rattle.heap_terms.specs.declared.events.Placing.{Placing}
 use Rattle.heap_terms.specs.declared.programs.Program.{Program}
 use Rattle.heap_terms.specs.Generations.{has_generation, is_of, names}
 use Rattle.heap_terms.specs.Heap.{NamedHeap, object_at, entry_at, zero_value}
-use Rattle.heap_terms.specs.Living.{IsLiving, AreLiving, HoldsLiving}
+use Rattle.heap_terms.specs.Living.{IsLiving, HoldsLiving}
 use Rattle.heap_terms.specs.Objects.{Object, Contents, ConsOf, VectorOf, InstanceOf, ClosureOf, WordsOf, WeakTo, TableOf, words_of_object}
 use Rattle.heap_terms.specs.OnPages.{IsPlaced}
-use Rattle.heap_terms.specs.Passes.{IsPass, remains, order_of, moved_to, is_freed, freed_of}
+use Rattle.heap_terms.specs.Passes.{IsPass, remains, order_of, moved_to, is_freed}
 use Rattle.heap_terms.specs.Placement.{placement}
-use Rattle.heap_terms.specs.Sound.{IsSound, IsFinalizer}
-use Rattle.heap_terms.specs.Survival.{is_kept, culled_from, culls_in, culls_of, breaks_in, breaks_of, queued_of}
+use Rattle.heap_terms.specs.Sound.{IsFinalizer}
+use Rattle.heap_terms.specs.Survival.{is_kept, culled_from, culls_in, culls_of}
 use Rattle.heap_terms.specs.WellFormed.{IsWellFormed}
 use Rattle.heap_terms.specs.Collections.{closed, after_pass_of, ArePasses, IsCollection}
 use Rattle.heap_terms.specs.Policy.{raises, target_of}
 use Rattle.pass_laws.specs.NoRegions.{HasNoRegions}
-use Rattle.pass_laws.specs.PlainRecords.{IsName, IsIndex, IsPageNumber, IsNewIndex, IsSide, IsPlainRecord}
+use Rattle.pass_laws.specs.PlainRecords.{IsName, IsIndex, IsNewIndex, IsSide, IsPlainRecord}
 use Rattle.pass_laws.specs.Spread.{settled}
 use Rattle.pass_laws.proofs.AfterPages.{spread, objects_long}
 use Rattle.pass_laws.proofs.Collecting.{goes_on-low, target-most, pass_of-well_formed, closed_none, closed-well_formed}
 use Rattle.pass_laws.proofs.LiveNames.{object_below}
 use Rattle.pass_laws.proofs.Sizes.{words_least}
-use Rattle.pass_laws.proofs.Spreading.{IsPlacing, IsMoveOf}
+use Rattle.pass_laws.proofs.Spreading.{IsMoveOf}
 
 -- each move has the place that the list gives to its name
 moved_at : (moves : List Placing) → AllPairs (λ (m n : Placing). m.name ≢ n.name) moves → (k : ℕ) (d : Placing) → k < length moves →
@@ -118,9 +117,11 @@ module _ (p : Program) (a : NamedHeap) (g h : ℕ) (r : PassRecord) (w : IsWellF
       All-map (λ (c : Cull). IsName c.table × IsSide c.key × IsSide c.value) (λ (pair : Value × Value). record { table = name; key = pair.0; value = pair.1 })
       (filter (λ pair. not (is_kept (remains a r) weakness pair)) pairs)
       (All-filter (λ pair. not (is_kept (remains a r) weakness pair)) (λ (pair : Value × Value). IsName name × IsSide pair.0 × IsSide pair.1) pairs
-      (λ k d l. (is,
-      side_plain _ (subst (IsLiving a.objects) (get_or-map (λ (q : Value × Value). q.0) pairs k d zero_value l) (holds.0 k)),
-      side_plain _ (subst (IsLiving a.objects) (get_or-map (λ (q : Value × Value). q.1) pairs k d zero_value l) (holds.1 k)))))
+      (λ k d l. (
+        is,
+        side_plain _ (subst (IsLiving a.objects) (get_or-map (λ (q : Value × Value). q.0) pairs k d zero_value l) (holds.0 k)),
+        side_plain _ (subst (IsLiving a.objects) (get_or-map (λ (q : Value × Value). q.1) pairs k d zero_value l) (holds.1 k)),
+      )))
 
   culls_plain : All (λ (c : Cull). IsName c.table × IsSide c.key × IsSide c.value) (culls_of a (remains a r))
   culls_plain = All-flat_map (λ (c : Cull). IsName c.table × IsSide c.key × IsSide c.value) (λ name. culls_in (remains a r) name (object_at a.objects name)) (names a)

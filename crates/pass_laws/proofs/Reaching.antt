@@ -1,21 +1,20 @@
 -- Passes in the words of a user: what is pinned, reached, unreached or weak, before and after.
-use Rattle.std.proofs.Common.{◌≡◌, ℕ, zero, suc, ◌<◌, ◌≤◌, List, [], ◌∷◌, length, get_or, Option, Some, None, Bool, true, false, ◌⊎◌, inl, inr, refl, sym, ◌∙◌, subst, ap, arith}
-use Rattle.std.proofs.lemmas.Bool.{cases_Bool, or_cases, or_left, or_right, and_parts, false≢true, eqb-true, eq-eqb}
+use Rattle.std.proofs.Common.{◌≡◌, ℕ, zero, suc, List, [], ◌∷◌, get_or, Option, Some, None, Bool, true, false, ◌⊎◌, inl, inr, refl, sym, ◌∙◌, subst, ap}
+use Rattle.std.proofs.lemmas.Bool.{cases_Bool, and_parts, false≢true, eqb-true}
 use Rattle.std.proofs.lemmas.List.Elements.{filter_agree}
 use Rattle.std.proofs.lemmas.Option.{same_Some}
-use Rattle.std.specs.List.{list_any}
-use Rattle.std.specs.Prelude.{◌||◌, not, ◌==◌, ◌≢◌, filter, if◌then◌else◌, unwrap_or, is_some}
+use Rattle.std.specs.Prelude.{◌==◌, filter, if◌then◌else◌, unwrap_or, is_some}
 use Rattle.heap_terms.specs.declared.cells.Value.{Value}
 use Rattle.heap_terms.specs.declared.cells.Value.TheVariants as values
 use Rattle.heap_terms.specs.declared.events.PassRecord.{PassRecord}
 use Rattle.heap_terms.specs.declared.events.Placing.{Placing}
 use Rattle.heap_terms.specs.declared.kinds.Weakness.{Weakness}
 use Rattle.heap_terms.specs.declared.kinds.Weakness.TheVariants as weaknesses
-use Rattle.heap_terms.specs.Generations.{has_generation, is_of}
+use Rattle.heap_terms.specs.Generations.{is_of}
 use Rattle.heap_terms.specs.Heap.{NamedHeap, object_at, thread_at, zero_value}
 use Rattle.heap_terms.specs.Live.{is_live, AreLive, KeepsSides, Keeps, IsClosed, AreLiveNames}
 use Rattle.heap_terms.specs.Objects.{Object, Contents, ConsOf, VectorOf, InstanceOf, ClosureOf, WordsOf, WeakTo, TableOf, kind_of, fields_of}
-use Rattle.heap_terms.specs.Passes.{IsPass, is_listed_move, is_listed_pin, remains, moved_to, object_after, after_pass}
+use Rattle.heap_terms.specs.Passes.{IsPass, remains, moved_to, object_after, after_pass}
 use Rattle.heap_terms.specs.Roots.{is_hit, is_pinned}
 use Rattle.heap_terms.specs.Survival.{keeps_pair, is_kept, surviving}
 use Rattle.pass_laws.specs.Laws.{KeepsByWeakness}
@@ -185,8 +184,9 @@ pub weak_tables : (a : NamedHeap) (g h : ℕ) (r : PassRecord) (name : ℕ) (o q
     × ((i : ℕ) → KeepsByWeakness (after_pass a r) w (get_or pairs i (zero_value, zero_value)))
 weak_tables a g h r name o q w b pairs pass at table after =
     let was = was_there a r name o q at after in
-    let keeps : Keeps (remains a r) (TableOf w b pairs) = subst (λ (k : Contents). Keeps (remains a r) k) table (pass.live.closed.members name o at was.0) in
-    (ap (λ (x : Object). x.contents) was.1 ∙ ap (surviving (remains a r)) table
-    ∙ ap (λ (ps : List (Value × Value)). TableOf w b ps) (filter_agree (is_kept (remains a r) w) _
-    (λ pair. rw (there_is a r pair.0, there_is a r pair.1) refl) pairs),
-    λ i. pair_keeps a r w (get_or pairs i (zero_value, zero_value)) (keeps i))
+    let keeps : Keeps (remains a r) (TableOf w b pairs) = subst (λ (k : Contents). Keeps (remains a r) k) table (pass.live.closed.members name o at was.0) in (
+      ap (λ (x : Object). x.contents) was.1 ∙ ap (surviving (remains a r)) table
+          ∙ ap (λ (ps : List (Value × Value)). TableOf w b ps) (filter_agree (is_kept (remains a r) w) _
+          (λ pair. rw (there_is a r pair.0, there_is a r pair.1) refl) pairs),
+      λ i. pair_keeps a r w (get_or pairs i (zero_value, zero_value)) (keeps i),
+    )

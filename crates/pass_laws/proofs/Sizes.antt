@@ -1,13 +1,12 @@
 -- Sizes of objects are even and at least 2, a run for one is long enough, and objects that share no word lie apart.
-use Rattle.std.proofs.Common.{◌≡◌, ℕ, zero, suc, ◌+◌, ◌-◌, ◌*◌, ◌/◌, ◌%◌, ◌<◌, ◌≤◌, List, length, Option, Some, None, Bool, true, false, ◌⊎◌, inl, inr, refl, sym, ◌∙◌, subst, ap, arith}
-use Rattle.std.proofs.lemmas.Bool.{cases_lt, cases_Bool, leb-true, leb-false, false≢true}
-use Rattle.std.specs.Prelude.{if◌then◌else◌}
+use Rattle.std.proofs.Common.{◌≡◌, ℕ, ◌+◌, ◌-◌, ◌*◌, ◌/◌, ◌%◌, ◌<◌, ◌≤◌, List, true, false, inl, inr, refl, sym, ◌∙◌, arith}
+use Rattle.std.proofs.lemmas.Bool.{cases_lt, cases_Bool, leb-true, leb-false}
 use Rattle.heap_terms.specs.declared.kinds.Kind.{Kind}
 use Rattle.heap_terms.specs.declared.kinds.Kind.TheVariants as kinds
 use Rattle.heap_terms.specs.declared.pages.Entry.{Entry}
 use Rattle.heap_terms.specs.declared.pages.Entry.TheVariants.{Free, Used}
 use Rattle.heap_terms.specs.Heap.{entry_at, fill_of}
-use Rattle.heap_terms.specs.Layout.{page_words, size_of, size_with_header}
+use Rattle.heap_terms.specs.Layout.{page_words, size_of}
 use Rattle.heap_terms.specs.Objects.{Object, kind_of, payload_of, words_of_object}
 use Rattle.heap_terms.specs.Regions.{is_small, pages_needed}
 use Rattle.heap_terms.specs.OnPages.{IsPlaced, IsOnPage, IsPageOfRun, AreApart}

@@ -1,11 +1,11 @@
 -- A placement keeps the layout: at each moment the objects, at their places so far, lie as they must and apart.
-use Rattle.std.proofs.Common.{◌≡◌, ℕ, zero, suc, ◌+◌, ◌-◌, ◌*◌, ◌/◌, ◌%◌, ◌<◌, ◌≤◌, List, [], ◌∷◌, ◌++◌, length, get_or, set, Option, Some, None, Bool, true, false, ◌⊎◌, inl, inr, refl, sym, ◌∙◌, subst, ap, arith}
-use Rattle.std.proofs.lemmas.Bool.{cases_lt, cases_eq, cases_Bool, and_parts, and_cases, or_parts, or_from, leb-true, false≢true, cond-false, eq-eqb, ne_eqb}
+use Rattle.std.proofs.Common.{◌≡◌, ℕ, suc, ◌+◌, ◌*◌, ◌/◌, ◌%◌, ◌<◌, ◌≤◌, List, [], ◌∷◌, ◌++◌, length, get_or, set, Option, Some, None, Bool, true, false, ◌⊎◌, inl, inr, refl, sym, ◌∙◌, subst, ap, arith}
+use Rattle.std.proofs.lemmas.Bool.{cases_eq, cases_Bool, or_parts, or_from, leb-true, false≢true, cond-false, eq-eqb, ne_eqb}
 use Rattle.std.proofs.lemmas.List.Elements.{All-push, All-nil}
 use Rattle.std.proofs.lemmas.List.Folds.{list_any-append}
 use Rattle.std.proofs.lemmas.Option.{same_Some}
 use Rattle.std.specs.List.{list_any}
-use Rattle.std.specs.Prelude.{All, AllPairs, option_map, ◌&&◌, ◌||◌, ◌==◌, if◌then◌else◌, ◌≢◌}
+use Rattle.std.specs.Prelude.{All, AllPairs, option_map, ◌&&◌, ◌==◌, if◌then◌else◌, ◌≢◌}
 use Rattle.heap_terms.specs.declared.events.Placing.{Placing}
 use Rattle.heap_terms.specs.declared.kinds.PageType.{PageType}
 use Rattle.heap_terms.specs.declared.kinds.PageType.TheVariants as types
@@ -21,8 +21,8 @@ use Rattle.heap_terms.specs.Sound.{IsSound}
 use Rattle.heap_terms.specs.OnPages.{IsFill, IsEntry, IsPlaced, IsOnPage, IsPageOfRun, AreApart, SaysOfRun, IsInRun}
 use Rattle.pass_laws.specs.Spread.{moved_object, settled, IsSpread}
 use Rattle.pass_laws.proofs.FreeRuns.{AreFree, lowest_free}
-use Rattle.pass_laws.proofs.Landing.{IsTaken, IsFilled, EntryStep, AreInUse, Lands, HasRoom, small_lands, large_lands, used_inside}
-use Rattle.pass_laws.proofs.Sizes.{IsBelowFill, words_least, words_even, small_most, large_needs, large_least, small_needs, apart_above, apart_swapped}
+use Rattle.pass_laws.proofs.Landing.{IsTaken, EntryStep, AreInUse, Lands, HasRoom, small_lands, large_lands, used_inside}
+use Rattle.pass_laws.proofs.Sizes.{words_least, small_most, large_needs, large_least, small_needs, apart_above, apart_swapped}
 
 -- a small object goes to a page and a fill
 filled_small : (s : Placement) (o : Object) (page fill index : ℕ) → AreInUse s → is_small (words_of_object o) ≡ true →

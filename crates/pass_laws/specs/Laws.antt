@@ -1,5 +1,5 @@
 -- Laws of passes and collections, each for every heap: what a reader may rely on beside the definitions themselves.
-use Rattle.std.specs.Prelude.{◌≡◌, ◌≢◌, ℕ, ◌+◌, ◌<◌, ◌≤◌, List, [], ◌∷◌, ◌++◌, length, map, filter, All, AllPairs, Option, Some, None, Bool, true, false, if◌then◌else◌, slice_index_or}
+use Rattle.std.specs.Prelude.{◌≡◌, ◌≢◌, ℕ, ◌≤◌, List, ◌∷◌, ◌++◌, length, map, filter, All, AllPairs, Some, None, Bool, true, false, if◌then◌else◌, slice_index_or}
 use Rattle.heap_terms.specs.declared.cells.Value.{Value}
 use Rattle.heap_terms.specs.declared.cells.Value.TheVariants as values
 use Rattle.heap_terms.specs.declared.events.PassRecord.{PassRecord}
@@ -11,7 +11,7 @@ use Rattle.heap_terms.specs.declared.programs.Program.{Program}
 use Rattle.heap_terms.specs.Collections.{IsPassOf, ArePasses, after_passes, IsCollection, collected}
 use Rattle.heap_terms.specs.Heap.{NamedHeap, object_at, thread_at, zero_value}
 use Rattle.heap_terms.specs.Live.{IsClosed, AreLiveNames}
-use Rattle.heap_terms.specs.Objects.{Object, kind_of, ConsOf, VectorOf, InstanceOf, ClosureOf, WordsOf, WeakTo, TableOf, fields_of}
+use Rattle.heap_terms.specs.Objects.{Object, kind_of, WeakTo, TableOf, fields_of}
 use Rattle.heap_terms.specs.Passes.{IsPass, after_pass, order_of}
 use Rattle.heap_terms.specs.Placement.{placement, lowest_run}
 use Rattle.heap_terms.specs.Regions.{IsLowestRun, HasNoRun}

@@ -3,5 +3,4 @@ pub mod Reached
 pub mod NoRegions
 pub mod PlainRecords
 pub mod Laws
-pub mod Scripts
-pub mod Worked
+pub mod Examples

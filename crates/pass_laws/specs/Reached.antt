@@ -1,6 +1,6 @@
 -- What a user means by reach: a name is reached from a root along fields, and along the pairs of tables that keep both
 -- sides. That a pass keeps what is reached is SBCL's. Left free is along which way a name is reached.
-use Rattle.std.specs.Prelude.{◌≡◌, ◌≢◌, ℕ, ◌⊎◌, List, Option, Some, Bool, true, false, slice_index_or, is_some}
+use Rattle.std.specs.Prelude.{◌≡◌, ◌≢◌, ℕ, ◌⊎◌, List, Some, Bool, true, slice_index_or, is_some}
 use Rattle.heap_terms.specs.declared.cells.Value.{Value}
 use Rattle.heap_terms.specs.declared.cells.Value.TheVariants as values
 use Rattle.heap_terms.specs.declared.kinds.Weakness.TheVariants as weaknesses

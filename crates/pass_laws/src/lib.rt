@@ -4,5 +4,5 @@
 #![tactic(auto)]
 
 pub mod collections;
+pub mod examples;
 pub mod passes;
-pub mod worked;

@@ -7,11 +7,11 @@ use Rattle.heap_terms.specs.declared.commands.Command.{Command}
 use Rattle.heap_terms.specs.declared.commands.Command.TheVariants as commands
 use Rattle.heap_terms.specs.declared.faults.Why.{Why}
 use Rattle.heap_terms.specs.declared.faults.Why.TheVariants.{Fields}
-use Rattle.heap_terms.specs.Fields.{◌>>=◌, signed_of, ranged, is_fixnum}
+use Rattle.heap_terms.specs.Fields.{◌>>=◌, is_fixnum}
 use Rattle.heap_terms.specs.Grammar.{FieldForm, LispCell, Signed, Meaning, Saying, Statement, Does, Row, Small, meaning_of, said_of, rows, row, said_by, statement_of}
 use Rattle.script_text.specs.declared.words.Name.{Name}
 use Rattle.script_text.specs.declared.words.Name.TheVariants as names
-use Rattle.script_text.specs.Commands.{in_first, but_first, a_cell, an_index, a_fixnum, front_command, field_count, does}
+use Rattle.script_text.specs.Commands.{in_first, but_first, front_command, field_count, does}
 use Rattle.script_text.specs.Words.{text_of_name}
 
 -- ---- steps that may fail

@@ -3,6 +3,7 @@ use Rattle.std.specs.Prelude.{◌≡◌, ℕ, ◌<◌, ◌≤◌, List, [], ◌�
 use Rattle.heap_terms.specs.declared.faults.Why.{Why}
 use Rattle.heap_terms.specs.declared.faults.Why.TheVariants.{Fields}
 use Rattle.heap_terms.specs.declared.faults.LimitKind.TheVariants as limits
+use Rattle.heap_terms.specs.declared.limits.TheConstants.{MOST_TURNS}
 use Rattle.heap_terms.specs.Fields.{◌>>=◌}
 use Rattle.heap_terms.specs.Grammar.{turns_of_all}
 use Rattle.heap_terms.specs.ScriptReading.{SoFar, Refused, Bad, Over}
@@ -35,5 +36,5 @@ NotAdded faults.Memory limit turns = Unit {0}
 
 -- what adding turns answers: they are added, one field is bad, or they are too many
 abbrev pub AddsTurns : Result (Unit {0}) LineFault → List ℕ → Result (List ℕ) Why → Type 0
-AddsTurns (Ok done) new turns = (turns ≡ Ok new) × (length new ≤ 1000000)
-AddsTurns (Err fault) new turns = NotAdded fault 1000000 turns
+AddsTurns (Ok done) new turns = (turns ≡ Ok new) × (length new ≤ MOST_TURNS)
+AddsTurns (Err fault) new turns = NotAdded fault MOST_TURNS turns

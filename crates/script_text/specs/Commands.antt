@@ -5,6 +5,7 @@ use Rattle.heap_terms.specs.declared.commands.Command.{Command}
 use Rattle.heap_terms.specs.declared.commands.Command.TheVariants as commands
 use Rattle.heap_terms.specs.declared.faults.Why.{Why}
 use Rattle.heap_terms.specs.declared.faults.Why.TheVariants.{Fields, Form}
+use Rattle.heap_terms.specs.declared.limits.TheConstants.{MOST_ELEMENTS}
 use Rattle.heap_terms.specs.Fields.{◌>>=◌, number_of, signed_of, cell_of, ranged, at_most, is_fixnum}
 use Rattle.heap_terms.specs.Grammar.{Statement, Does, statement_of}
 use Rattle.script_text.specs.declared.words.Name.{Name}
@@ -30,7 +31,7 @@ abbrev pub a_cell : List ℕ → Result Cell Why
 a_cell field = ok_or (cell_of field) Form
 
 abbrev pub an_index : List ℕ → Result ℕ Why
-an_index field = ranged (at_most 65535) (number_of field)
+an_index field = ranged (at_most MOST_ELEMENTS) (number_of field)
 
 abbrev pub a_fixnum : List ℕ → Result ℤ Why
 a_fixnum field = ranged is_fixnum (signed_of field)

@@ -9,15 +9,15 @@ ghost use Rattle.script_text.specs.Left.{field_len};
 
 use crate::fields::ends_plainly;
 use crate::numbers::number;
-use heap_terms::{Cell, Why};
+use heap_terms::{CELLS, Cell, Why};
 
 /// The number of a Lisp cell: below 16, and with no leading zero.
 #[tactic(auto, unfolding(heap_terms::specs::Fields::cell_number))]
 fn number_of_cell(digits: &[u8]) -> Option<u8>
-    ensures { result ≡ cell_number 16 digits.now }
+    ensures { result ≡ cell_number CELLS digits.now }
 {
     let n = number(digits)?;
-    if n < 16 && (digits.len() == 1 || !matches!(digits, [b'0', ..])) {
+    if n < u64::from(CELLS) && (digits.len() == 1 || !matches!(digits, [b'0', ..])) {
         Some(n as u8)
     } else {
         None
@@ -46,7 +46,7 @@ pub(crate) fn cell(field: &[u8]) -> Result<Cell, Why>
 /// The number of a Lisp cell at the end of a field, and the bytes after it.
 #[inline(always)]
 fn plain_number_of_cell(rest: &[u8]) -> Option<(u8, &[u8])>
-    ensures { IfSome result (λ f. (n : ℕ) × (n ≡ field_len rest.now) × (cell_number 16 (take n rest.now) ≡ Some f.0) × (f.1.now ≡ drop n rest.now)) }
+    ensures { IfSome result (λ f. (n : ℕ) × (n ≡ field_len rest.now) × (cell_number CELLS (take n rest.now) ≡ Some f.0) × (f.1.now ≡ drop n rest.now)) }
 {
     if rest.len() < 3 {
         return None;

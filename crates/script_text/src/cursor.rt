@@ -14,7 +14,7 @@ use crate::commands::plain_command;
 use crate::fields::{len_of_field, without_blanks};
 use crate::numbers::{fixnum, number_up_to};
 use crate::turns::{Turns, plain_digit, turns_in};
-use heap_terms::{Cell, Command, Why};
+use heap_terms::{Cell, Command, MOST_ELEMENTS, Why};
 use std::marker::Model;
 
 /// Where the bytes are that are not read yet.
@@ -125,7 +125,7 @@ impl<'a> Cursor<'a> {
         ensures moved { OnOk result (Moved self.old self.new) }
     {
         let field = self.field()?;
-        number_up_to(field, 65535)
+        number_up_to(field, MOST_ELEMENTS)
     }
 
     /// A fixnum.

@@ -10,7 +10,7 @@ ghost use Rattle.script_text.specs.Commands.{Reads, an_index, a_fixnum};
 ghost use Rattle.script_text.specs.Values.{pages_of, NumberAt};
 
 use crate::fields::ends_plainly;
-use heap_terms::Why;
+use heap_terms::{MOST_ELEMENTS, Why};
 
 /// The value of decimal digits; one above `u64::MAX` is given as `u64::MAX`.
 fn value_of_digits(digits: &[u8]) -> Option<u64>
@@ -163,7 +163,7 @@ pub(crate) fn plain_index(rest: &[u8]) -> Option<(u32, &[u8])>
     }
     let (_, digits) = rest.split_at(1);
     let (n, after) = plain_number(digits)?;
-    if n > 65535 {
+    if n > u64::from(MOST_ELEMENTS) {
         return None;
     }
     Some((n as u32, after))

@@ -14,21 +14,12 @@ use crate::cursor::Cursor;
 use crate::faults::LineFault;
 use crate::schedules::add_turns;
 use crate::words::{Keyword, Place, meaning_of};
-use heap_terms::{Command, Commands, LimitKind, Program, Scripts, Turns, Why};
+use heap_terms::{
+    Command, Commands, LimitKind, MOST_COMMANDS, MOST_GCS, MOST_PAGES, MOST_THREADS, Program,
+    Scripts, Turns, Why,
+};
 use std::alloc::{AllocFailed, Global};
 use std::marker::Model;
-
-/// How many pages a heap may have.
-const MOST_PAGES: u64 = 1024;
-
-/// How many threads a script may have.
-const MOST_THREADS: usize = 8;
-
-/// How many commands all threads may have.
-const MOST_COMMANDS: u32 = 20_000;
-
-/// How many of them may be `gc`.
-const MOST_GCS: u32 = 64;
 
 /// How many bytes a short line of a command has. It is a guess: where lines are shorter, a thread's
 /// list of commands grows.
@@ -93,7 +84,7 @@ impl Reader {
     fn heap(&mut self, pages: u64) -> Result<(), LineFault>
         ensures { (n : ℕ) → pages ≡ min n (2 ^ 64 - 1) → IsJudged result self.new (within_limits self.old (Ok (HeapOf n))) }
     {
-        if pages > MOST_PAGES {
+        if pages > u64::from(MOST_PAGES) {
             return Err(LineFault::Over(LimitKind::Pages));
         }
         self.pages = pages as u32;
@@ -105,7 +96,7 @@ impl Reader {
     fn thread(&mut self, alloc: Global, bytes: usize) -> Result<(), LineFault>
         ensures { IsJudged result self.new (within_limits self.old (Ok NewThread)) }
     {
-        if self.threads.len() >= MOST_THREADS {
+        if self.threads.len() >= MOST_THREADS as usize {
             return Err(LineFault::Over(LimitKind::Threads));
         }
         let most = (MOST_COMMANDS - self.commands) as usize;

@@ -8,11 +8,11 @@ ghost use Rattle.script_text.specs.Left.{fields_left, lines_after};
 use crate::cursor::Cursor;
 use crate::faults::LineFault;
 use crate::turns::{Turns, turns_in};
-use heap_terms::{LimitKind, Why};
+use heap_terms::{LimitKind, MOST_TURNS, Why};
 use std::alloc::AllocFailed;
 
 /// How many turns the schedules of a script may have.
-const MOST_TURNS: usize = 1_000_000;
+const MOST: usize = MOST_TURNS as usize;
 
 /// Adds turns of one thread at the end.
 fn push_turns(schedule: &mut Vec<u32>, turns: Turns) -> Result<(), AllocFailed<u32>>
@@ -42,12 +42,12 @@ fn add_plain_turns(
     threads: u32,
     left: &mut Cursor,
 ) -> Result<(), AllocFailed<u32>>
-    requires { length schedule.old.items ≤ 1000000 }
+    requires { length schedule.old.items ≤ MOST_TURNS }
     ensures turns { OnOk result (turns_behind schedule.old.items threads (fields_left left.old) ≡ turns_behind schedule.new.items threads (fields_left left.new)) }
-    ensures most { length schedule.new.items ≤ 1000000 }
+    ensures most { length schedule.new.items ≤ MOST_TURNS }
     ensures lines { OnOk result (lines_after left.new ≡ lines_after left.old) }
 {
-    while schedule.len() < MOST_TURNS {
+    while schedule.len() < MOST {
         let Some(thread) = left.plain_turn(threads) else {
             return Ok(());
         };
@@ -62,15 +62,15 @@ pub(crate) fn add_turns(
     threads: u32,
     left: &mut Cursor,
 ) -> Result<(), LineFault>
-    requires { length schedule.old.items ≤ 1000000 }
+    requires { length schedule.old.items ≤ MOST_TURNS }
     ensures turns { AddsTurns result schedule.new.items (turns_behind schedule.old.items threads (fields_left left.old)) }
-    ensures most { length schedule.new.items ≤ 1000000 }
+    ensures most { length schedule.new.items ≤ MOST_TURNS }
     ensures lines { OnOk result (lines_after left.new ≡ lines_after left.old) }
 {
     add_plain_turns(schedule, threads, left)?;
     while let Some(turns) = left.turns(threads) {
         let turns = turns?;
-        if turns.count as usize > MOST_TURNS - schedule.len() {
+        if turns.count as usize > MOST - schedule.len() {
             check_turns(threads, left)?;
             return Err(LineFault::Over(LimitKind::Schedule));
         }

@@ -7,7 +7,7 @@ ghost use Rattle.script_text.specs.Values.{one_by_one};
 
 use crate::fields::ends_plainly;
 use crate::numbers::number;
-use heap_terms::Why;
+use heap_terms::{MOST_TURNS_IN_A_ROW, Why};
 
 /// Turns of one thread in a row.
 #[derive(Clone, Copy)]
@@ -45,7 +45,7 @@ fn turns_in_a_row(thread: &[u8], count: &[u8], threads: u32) -> Result<Turns, Wh
     let Some(count) = number(count) else {
         return Err(Why::Form);
     };
-    if thread < u64::from(threads) && count >= 1 && count <= 65535 {
+    if thread < u64::from(threads) && count >= 1 && count <= u64::from(MOST_TURNS_IN_A_ROW) {
         Ok(Turns {
             thread: thread as u32,
             count: count as u32,

@@ -1,6 +1,6 @@
 -- Values, answers, events, programs and what stands in them are equal exactly where they are the same.
-use Rattle.std.proofs.Common.{◌≡◌, ℕ, ℤ, Bool, true, false, ◌&&◌, nat_eq, List, refl, rules, subst, Decides}
-use Rattle.std.specs.Cmp.{signed_Decides, unsigned_Decides}
+use Rattle.std.proofs.Common.{◌≡◌, ℕ, true, nat_eq, List, refl, rules, subst, Decides}
+use Rattle.std.specs.Cmp.{unsigned_Decides}
 use Rattle.std.specs.Cmp.Lexicographic.{pointwise, pointwise_decides}
 use Rattle.std.proofs.lemmas.Bool.{and_parts, and_from, false≢true}
 use Rattle.heap_terms.specs.declared.answers.Answer.{Answer}

@@ -71,6 +71,7 @@ pub record Opens (p : Program) (a : NamedHeap) (t : ℕ) (ty : PageType) (first 
   pub type_is : ty ≡ page_type_of kind
   pub count_is : k ≡ pages_needed (size_of kind n)
   pub lowest : IsLowestRun a.pages first k
+  pub free : due (thread_at a t) ≡ None
 
 -- thread t collects up to a generation, with these passes
 pub record Collects (p : Program) (a : NamedHeap) (t last : ℕ) (passes : List PassRecord) : Type 0 where
@@ -179,6 +180,40 @@ unfolding next
 next_parts p a t m e done collect =
     next_is_commands (thread_at a t).ended (due (thread_at a t)) (next_command a t (command_at p a t)) m e done collect
 
+-- and then nothing is due
+pub next_is_free : (ended : Bool) (owed : Option ℕ) (n m : Next) → (if ended then nexts.Done else next_unless_due owed n) ≡ m →
+    m ≢ nexts.Done → ((last : ℕ) → m ≢ nexts.Collect last) → owed ≡ None
+next_is_free true owed n m e done collect = absurd (done (sym e))
+next_is_free false None n m e done collect = refl
+next_is_free false (Some last) n m e done collect = absurd (collect last (sym e))
+
+pub next_free : (p : Program) (a : NamedHeap) (t : ℕ) (m : Next) → next p a t ≡ m →
+    m ≢ nexts.Done → ((last : ℕ) → m ≢ nexts.Collect last) → due (thread_at a t) ≡ None
+unfolding next
+next_free p a t m e done collect =
+    next_is_free (thread_at a t).ended (due (thread_at a t)) (next_command a t (command_at p a t)) m e done collect
+
+-- a thread that has nothing left to do has ended
+pub next_done : (p : Program) (a : NamedHeap) (t : ℕ) → next p a t ≡ nexts.Done → (thread_at a t).ended ≡ true
+unfolding next
+next_done p a t e = go (thread_at a t).ended (due (thread_at a t)) (command_at p a t) e
+  where
+    never_for : (w : Wish) → next_for a t w ≡ nexts.Done → ⊥
+    never_for Nothing e = cc
+    never_for (Make k m s) e = elim (cases_Bool (has_room a t k (size_of k m))) [
+      | inl h ↦ (let e' = rw h at e in cc)
+      | inr h ↦ (let e' = rw h at e in cc)
+    ]
+
+    never : (o : Option Command) → next_command a t o ≡ nexts.Done → ⊥
+    never None e = cc
+    never (Some c) e = never_for (wish_of c) e
+
+    go : (ended : Bool) (owed : Option ℕ) (o : Option Command) → (if ended then nexts.Done else next_unless_due owed (next_command a t o)) ≡ nexts.Done → ended ≡ true
+    go true owed o e = refl
+    go false None o e = absurd (never o e)
+    go false (Some last) o e = cc
+
 pub next_with_command : (a : NamedHeap) (t : ℕ) (o : Option Command) (c : Command) (m : Next) → o ≡ Some c → next_command a t o ≡ m →
     next_for a t (wish_of c) ≡ m
 next_with_command a t None c m o e = cc
@@ -251,6 +286,7 @@ opens_from p a t ty first k e =
       type_is = opening'.0;
       count_is = opening'.1;
       lowest = opening'.2;
+      free = next_free p a t nexts.Open e.0 (λ d. cc) (λ last d. cc);
     }
 
 pub collects_from : (p : Program) (a : NamedHeap) (t last : ℕ) (passes : List PassRecord) → IsNext p a (Collected t last passes) → Collects p a t last passes

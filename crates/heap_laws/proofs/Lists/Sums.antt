@@ -5,6 +5,7 @@ use Rattle.std.proofs.lemmas.List.{length-map, get_or-map}
 use Rattle.std.proofs.lemmas.List.FromFn.{fill_by_all}
 use Rattle.std.proofs.lemmas.List.Sums.{sum-map, sum_by-cons}
 use Rattle.std.specs.List.{range_with_len, sum_by}
+use Rattle.heap_laws.specs.Remaining.{collection_weight}
 
 pub sum_same : (f g : ℕ → ℕ) (a n : ℕ) → ((u : ℕ) → a ≤ u → u < a + n → g u ≡ f u) → sum_by g (range_with_len a n) ≡ sum_by f (range_with_len a n)
 sum_same f g a zero h = refl
@@ -50,3 +51,23 @@ sum_double f a zero = refl
 sum_double f a (suc n) =
     let rest = sum_double f (a + 1) n in
     omega (arith, sum_by-cons f a (range_with_len (a + 1) n), sum_by-cons (λ t. 2 + 2 * f t) a (range_with_len (a + 1) n))
+
+-- a sum of one more and each part
+pub sum_more : (f : ℕ → ℕ) (a n : ℕ) → sum_by (λ t. 1 + f t) (range_with_len a n) ≡ n + sum_by f (range_with_len a n)
+sum_more f a zero = refl
+sum_more f a (suc n) =
+    let rest = sum_more f (a + 1) n in
+    omega (arith, sum_by-cons f a (range_with_len (a + 1) n), sum_by-cons (λ t. 1 + f t) a (range_with_len (a + 1) n))
+
+-- a sum of two parts, the second with the weight of a collection
+pub sum_weighted : (f g : ℕ → ℕ) (a n : ℕ) → sum_by (λ t. f t + collection_weight * g t) (range_with_len a n)
+    ≡ sum_by f (range_with_len a n) + collection_weight * sum_by g (range_with_len a n)
+sum_weighted f g a zero = refl
+sum_weighted f g a (suc n) =
+    let rest = sum_weighted f g (a + 1) n in
+    omega (
+      arith,
+      sum_by-cons f a (range_with_len (a + 1) n),
+      sum_by-cons g a (range_with_len (a + 1) n),
+      sum_by-cons (λ t. f t + collection_weight * g t) a (range_with_len (a + 1) n),
+    )

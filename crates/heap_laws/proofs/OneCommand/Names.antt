@@ -1,7 +1,8 @@
 -- The names that a history gives are 0, 1, 2 and so on.
-use Rattle.std.proofs.Common.{◌≡◌, ℕ, zero, suc, ◌+◌, List, [], ◌∷◌, ◌++◌, length, Option, Some, None, Bool, true, false, ◌⊎◌, inl, inr, refl, sym, ◌∙◌, ap, arith, cond}
-use Rattle.std.proofs.lemmas.List.{length_push}
-use Rattle.std.specs.List.{filter_map, range_with_len}
+use Rattle.std.proofs.Common.{◌≡◌, ℕ, ◌+◌, List, [], ◌∷◌, ◌++◌, length, Option, Some, None, Bool, true, false, ◌⊎◌, inl, inr, refl, sym, ◌∙◌, ap, arith, cond}
+use Rattle.std.proofs.lemmas.List.{length_push, length-set}
+use Rattle.std.proofs.lemmas.List.FromFn.{length-map-range_with_len}
+use Rattle.std.specs.List.{range_with_len}
 use Rattle.heap_terms.specs.declared.answers.Answer.{Answer}
 use Rattle.heap_terms.specs.declared.answers.Answer.TheVariants as answers
 use Rattle.heap_terms.specs.declared.cells.Value.TheVariants as values
@@ -9,17 +10,22 @@ use Rattle.heap_terms.specs.declared.commands.Command.{Command}
 use Rattle.heap_terms.specs.declared.events.Event.{Event}
 use Rattle.heap_terms.specs.declared.kinds.Kind.{Kind}
 use Rattle.heap_terms.specs.declared.programs.Program.{Program}
-use Rattle.heap_terms.specs.Heap.{NamedHeap, start, thread_at, with_thread}
+use Rattle.heap_terms.specs.declared.cells.Value.{Value}
+use Rattle.heap_terms.specs.declared.events.PassRecord.{PassRecord}
+use Rattle.heap_terms.specs.Collections.{closed, after_pass_of, after_passes, collected}
+use Rattle.heap_terms.specs.Heap.{NamedHeap, start, object_at, thread_at, with_thread}
 use Rattle.heap_terms.specs.Histories.{IsNext, after, Lawful, LawfulFrom, replay, replay_from}
 use Rattle.heap_terms.specs.Layout.{size_of}
-use Rattle.heap_terms.specs.Objects.{Object}
+use Rattle.heap_terms.specs.Objects.{Object, Contents}
+use Rattle.heap_terms.specs.Outcomes.{outcome_of}
+use Rattle.heap_terms.specs.Passes.{object_after, after_pass}
+use Rattle.heap_terms.specs.Referents.{changed_at}
 use Rattle.heap_terms.specs.Regions.{committed, counting, triggers, run_used, pages_after, place_for, with_destination, destination_of, initial_contents}
-use Rattle.heap_terms.specs.Simple.{answer_of, effect_of}
 use Rattle.heap_laws.specs.CommandLaws.{name_in, name_in_answer, names_of}
 use Rattle.heap_laws.proofs.Events.Causes.{by_events}
 use Rattle.heap_laws.proofs.Events.OwnThread.{with_destination-objects}
-use Rattle.heap_laws.proofs.Events.Tasks.{effect-board}
-use Rattle.heap_laws.proofs.OneCommand.Outcome.{simple_places_nothing}
+use Rattle.heap_laws.proofs.Events.Tasks.{with_cell-objects}
+use Rattle.heap_laws.proofs.OneCommand.Outcome.{is_plain, by_table, by_answers, placed_not_plain}
 use Rattle.heap_laws.proofs.Ranges.ObjectCount.{start_empty}
 use Rattle.heap_laws.proofs.Ranges.OnlyConses.{opened-objects}
 
@@ -41,21 +47,47 @@ committed-length p a t c kind n =
     ∙ with_destination-objects placed t (destination_of c) (values.Ref (length a.objects)))
     ∙ length_push a.objects (Some object)
 
-no_name : (a : NamedHeap) (t : ℕ) (c : Command) (answer : Answer) → answer_of a t c ≡ Some answer → name_in_answer answer ≡ None
-no_name a t c (answers.Placed name index) e = absurd (simple_places_nothing a t c name index e)
-no_name a t c answers.Done e = refl
-no_name a t c (answers.Val v) e = refl
-no_name a t c (answers.Word w) e = refl
-no_name a t c answers.Yes e = refl
-no_name a t c answers.No e = refl
-no_name a t c answers.Absent e = refl
-no_name a t c (answers.Live v) e = refl
-no_name a t c answers.Broken e = refl
-no_name a t c (answers.Count n) e = refl
-no_name a t c (answers.Ran ids) e = refl
-no_name a t c (answers.Page view) e = refl
-no_name a t c (answers.Stat allocated cum num) e = refl
-no_name a t c (answers.Refused why) e = refl
+no_name : (a : NamedHeap) (t : ℕ) (c : Command) (answer : Answer) → answer ≡ (outcome_of a t c).answer → name_in_answer answer ≡ None
+no_name a t c answer e = ap name_in_answer e ∙ by_answers (λ x. name_in_answer x ≡ None) a t c (λ why. refl) plain_names
+  where
+    plain_names : (x : Answer) → is_plain x ≡ true → name_in_answer x ≡ None
+    plain_names (answers.Placed name index) h = absurd (placed_not_plain name index h)
+    plain_names answers.Done h = refl
+    plain_names (answers.Val v) h = refl
+    plain_names (answers.Word w) h = refl
+    plain_names answers.Yes h = refl
+    plain_names answers.No h = refl
+    plain_names answers.Absent h = refl
+    plain_names (answers.Live v) h = refl
+    plain_names answers.Broken h = refl
+    plain_names (answers.Count n) h = refl
+    plain_names (answers.Ran ids) h = refl
+    plain_names (answers.Page view) h = refl
+    plain_names (answers.Stat allocated cum num) h = refl
+    plain_names (answers.Refused why) h = refl
+
+-- a command that makes nothing, and a collection, add no name
+changed-length : (objects : List (Option Object)) (at : Value) (change : Contents → Contents) → length (changed_at objects at change) ≡ length objects
+changed-length objects (values.Fix n) change = refl
+changed-length objects values.Nil change = refl
+changed-length objects values.Unbound change = refl
+changed-length objects (values.Ref name) change = length-set objects name _
+
+simple-length : (a : NamedHeap) (t : ℕ) (c : Command) → length (outcome_of a t c).heap.objects ≡ length a.objects
+simple-length a t c =
+    by_table (λ o. length o.heap.objects ≡ length a.objects) a t (λ why. refl) (λ x e. refl) (λ x e d v. ap length (with_cell-objects a t d v))
+    (λ x e th. refl) (λ x e at change. changed-length a.objects at change) (λ x e fs. refl) (λ x e. refl) c
+
+passes-length : (a : NamedHeap) (last g : ℕ) (records : List PassRecord) → length (after_passes a last g records).objects ≡ length a.objects
+unfolding after_pass
+passes-length a last g [] = refl
+passes-length a last g (r ∷ rest) =
+    passes-length (after_pass_of a last g r) last (g + 1) rest
+    ∙ length-map-range_with_len (λ name. object_after a r name (object_at a.objects name)) 0 (length a.objects)
+
+collected-length : (a : NamedHeap) (t last : ℕ) (records : List PassRecord) → length (collected a t last records).objects ≡ length a.objects
+unfolding collected
+collected-length a t last records = passes-length (closed a) last 0 records
 
 -- an event gives no name, or the next one
 abbrev Gives : NamedHeap → Event → NamedHeap → Type 0
@@ -63,10 +95,11 @@ Gives a e b = ((name_in e ≡ None) × (length b.objects ≡ length a.objects)) 
 
 gives : (p : Program) (a : NamedHeap) (e : Event) → IsNext p a e → Gives a e (after p a e)
 gives p a e next = by_events p a (λ e b. Gives a e b)
-    (λ t c answer d. inl (no_name a t c answer d.answered, (effect-board a t c).objects))
+    (λ t c answer d. inl (no_name a t c answer d.answered, simple-length a t c))
     (λ t c answer d. inl (ap name_in_answer d.answered, refl))
     (λ t c answer kind n seed d. inr (ap name_in_answer d.answered, committed-length p a t c kind n))
     (λ t ty first k d. inl (refl, ap length (opened-objects a t ty first k)))
+    (λ t last passes d. inl (refl, collected-length a t last passes))
     (λ t d. inl (refl, refl))
     e next
 

@@ -1,24 +1,21 @@
 -- In a complete history each thread does its commands once and in order, and then ends.
-use Rattle.std.proofs.Common.{◌≡◌, ◌≢◌, ℕ, ◌+◌, ◌<◌, ◌≤◌, List, [], ◌∷◌, ◌++◌, length, Option, Some, None, true, false, inl, inr, refl, sym, ◌∙◌, subst, ap, arith, drop}
+use Rattle.std.proofs.Common.{◌≡◌, ◌≢◌, ℕ, ◌<◌, ◌≤◌, List, [], ◌∷◌, ◌++◌, length, Option, Some, None, true, false, inl, inr, refl, sym, ◌∙◌, subst, ap, drop}
 use Rattle.std.proofs.lemmas.Bool.{cases_eq, cases_Bool, false≢true, eq-eqb, ne_eqb}
-use Rattle.std.proofs.lemmas.List.{drop_more, drop_all, append-nil}
-use Rattle.std.proofs.lemmas.Option.{get_or_from_slice_get}
+use Rattle.std.proofs.lemmas.List.{drop_all, append-nil}
 use Rattle.std.specs.List.{filter, filter_map, cons_option}
-use Rattle.heap_terms.specs.declared.answers.Answer.{Answer}
 use Rattle.heap_terms.specs.declared.commands.Command.{Command}
 use Rattle.heap_terms.specs.declared.events.Event.{Event}
 use Rattle.heap_terms.specs.declared.events.Event.TheVariants.{Did, Opened, Collected, Ended}
 use Rattle.heap_terms.specs.declared.programs.Program.{Program}
 use Rattle.heap_terms.specs.Complete.{IsComplete}
 use Rattle.heap_terms.specs.Heap.{NamedHeap, Thread, start, thread_at}
-use Rattle.heap_terms.specs.Histories.{IsNext, after, LawfulFrom, replay_from, replay, script_of, command_at, thread_of}
+use Rattle.heap_terms.specs.Histories.{after, LawfulFrom, replay_from, replay, script_of, thread_of}
 use Rattle.heap_laws.specs.Order.{events_of, command_in, commands_of, is_end, EndsOnce}
 use Rattle.heap_terms.specs.Valid.{IsValid}
 use Rattle.heap_terms.specs.WellFormed.{IsWellFormed}
 use Rattle.heap_laws.proofs.Ranges.ObjectCount.{start_done, start_thread_is, replay-counted}
-use Rattle.heap_laws.proofs.Termination.EventsLeft.{no_collection}
 use Rattle.heap_laws.proofs.Events.OwnThread.{moves}
-use Rattle.heap_laws.proofs.Programs.BuiltCommands.{script_place}
+use Rattle.heap_laws.proofs.Events.ScriptSteps.{script_step}
 use Rattle.heap_laws.proofs.WellFormed.Replayed.{after-well_formed}
 use Rattle.heap_laws.proofs.WellFormed.Threads.{start-well_formed}
 
@@ -28,31 +25,6 @@ events_own t e es same = rw (eq-eqb (thread_of e) t same) refl
 
 pub events_other : (t : ℕ) (e : Event) (es : List Event) → thread_of e ≢ t → events_of t (e ∷ es) ≡ events_of t es
 events_other t e es other = rw (ne_eqb (thread_of e) t other) refl
-
-pub did_command : (p : Program) (a : NamedHeap) (t : ℕ) (c : Command) (answer : Answer) → IsNext p a (Did t c answer) → command_at p a t ≡ Some c
-unfolding IsNext
-did_command p a t c answer h = h.0
-
--- what is left of its thread's script before an event: the command that it does, and what is left after it
-pub script_step : (p : Program) (a : NamedHeap) (e : Event) → IsValid p → IsWellFormed p a → IsNext p a e →
-    drop (thread_at a (thread_of e)).done (script_of p (thread_of e))
-    ≡ cons_option (command_in e) (drop (thread_at (after p a e) (thread_of e)).done (script_of p (thread_of e)))
-script_step p a (Did t c answer) valid w next =
-    let m = moves p a (Did t c answer) valid w next in
-    let at = did_command p a t c answer next in
-    let l = script_place p t (thread_at a t).done c at in
-    drop_more (script_of p t) (thread_at a t).done c l
-    ∙ ap (λ (x : Command). x ∷ drop ((thread_at a t).done + 1) (script_of p t)) (get_or_from_slice_get (script_of p t) (thread_at a t).done c c at)
-    ∙ ap (λ (i : ℕ). c ∷ drop i (script_of p t)) (sym m.done)
-script_step p a (Opened t ty first k) valid w next =
-    let m = moves p a (Opened t ty first k) valid w next in
-    let same : (thread_at a t).done ≡ (thread_at (after p a (Opened t ty first k)) t).done = (let done = m.done in omega arith) in
-    ap (λ (i : ℕ). drop i (script_of p t)) same
-script_step p a (Collected t last passes) valid w next = absurd (no_collection p a t last passes next)
-script_step p a (Ended t) valid w next =
-    let m = moves p a (Ended t) valid w next in
-    let same : (thread_at a t).done ≡ (thread_at (after p a (Ended t)) t).done = (let done = m.done in omega arith) in
-    ap (λ (i : ℕ). drop i (script_of p t)) same
 
 pub cons_option-append : {X : Type 0} (o : Option X) (xs ys : List X) → cons_option o (xs ++ ys) ≡ cons_option o xs ++ ys
 cons_option-append None xs ys = refl

@@ -1,12 +1,11 @@
 -- Lists of pairs: what a new pair and a pair less leave of values that are living and of keys that are distinct.
-use Rattle.std.proofs.Common.{◌≡◌, ◌≢◌, ℕ, zero, suc, ◌+◌, ◌<◌, ◌≤◌, List, [], ◌∷◌, length, map, Option, Some, None, Bool, true, false, inl, inr, refl, sym, ◌∙◌, subst, ap, arith}
+use Rattle.std.proofs.Common.{◌≡◌, ◌≢◌, ℕ, suc, ◌+◌, ◌≤◌, List, [], ◌∷◌, length, map, Option, Some, Bool, true, inl, inr, refl, sym, ◌∙◌, subst, ap, arith}
 use Rattle.std.proofs.lemmas.Bool.{cases_Bool, or_cases, ltb-true, eqb-true, eq-eqb, false≢true}
 use Rattle.std.proofs.lemmas.Bool.Decides.{Decides-int_eq}
 use Rattle.std.proofs.lemmas.List.Elements.{All-nil, All-cons, All-head, All-tail}
 use Rattle.std.proofs.lemmas.List.Kept.{AllPairs-cons, AllPairs-filter}
-use Rattle.std.specs.List.{All, AllPairs, filter, list_any}
-use Rattle.std.specs.Prelude.{if◌then◌else◌, ◌||◌, not, nat_lt, nat_eq}
-use Rattle.std.specs.Ordering.{int_eq}
+use Rattle.std.specs.List.{All, filter}
+use Rattle.std.specs.Prelude.{◌||◌, not, nat_lt}
 use Rattle.heap_terms.specs.declared.cells.Value.{Value}
 use Rattle.heap_terms.specs.declared.cells.Value.TheVariants as values
 use Rattle.heap_terms.specs.Living.{IsLiving, AreLiving, AreDistinctKeys}

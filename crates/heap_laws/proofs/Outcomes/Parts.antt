@@ -3,11 +3,12 @@ use Rattle.std.proofs.Common.{◌≡◌, ℕ, zero, suc, ◌<◌, List, length, 
 use Rattle.std.proofs.lemmas.Bool.{ltb-true}
 use Rattle.std.proofs.lemmas.List.{length-set}
 use Rattle.std.specs.Prelude.{if◌then◌else◌, nat_lt, option_and_then, slice_index_or}
+use Rattle.heap_terms.specs.declared.answers.Refusal.TheVariants.{NotType, OutOfRange}
 use Rattle.heap_terms.specs.declared.cells.Value.{Value}
 use Rattle.heap_terms.specs.declared.cells.Value.TheVariants as values
 use Rattle.heap_terms.specs.Heap.{NamedHeap, object_at}
 use Rattle.heap_terms.specs.Objects.{Object, Contents, ConsOf, VectorOf, InstanceOf, ClosureOf, WordsOf, WeakTo, TableOf, kind_of, payload_of, fields_of}
-use Rattle.heap_terms.specs.Outcome.{Outcome, needing, indexing}
+use Rattle.heap_terms.specs.Outcome.{Outcome, refused, needing, indexing}
 use Rattle.heap_terms.specs.Referents.{contents_of, contents_at, fields_at, raws_of, raws_at, pointee_of, pointee_at, Table, table_of, table_at, with_field, changed_at}
 
 -- a fact of both of two outcomes
@@ -16,15 +17,24 @@ by_test P true x y one other = one refl
 by_test P false x y one other = other refl
 
 -- a fact of a refusal, and of what is done where there is what the command needs
+pub needing_cases : {A : Type 0} (Q : Outcome → Type 0) (o : Option A) (a : NamedHeap) (go : A → Outcome) → Q (refused NotType a) →
+    ((x : A) → o ≡ Some x → Q (go x)) → Q (needing o a go)
+needing_cases Q None a go same found = same
+needing_cases Q (Some x) a go same found = found x refl
+
+pub indexing_cases : {A : Type 0} (Q : Outcome → Type 0) (xs : List A) (i : ℕ) (default : A) (a : NamedHeap) (go : A → Outcome) → Q (refused OutOfRange a) →
+    (i < length xs → Q (go (slice_index_or xs i default))) → Q (indexing xs i default a go)
+indexing_cases Q xs i default a go same found = by_test Q (nat_lt i (length xs)) (go (slice_index_or xs i default)) (refused OutOfRange a)
+    (λ e. found (ltb-true i (length xs) e)) (λ e. same)
+
+-- the same of the heap that is left, which a refusal does not change
 pub by_needing : {A : Type 0} (P : NamedHeap → Type 0) (o : Option A) (a : NamedHeap) (go : A → Outcome) → P a →
     ((x : A) → o ≡ Some x → P (go x).heap) → P (needing o a go).heap
-by_needing P None a go same found = same
-by_needing P (Some x) a go same found = found x refl
+by_needing P o a go same found = needing_cases (λ (x : Outcome). P x.heap) o a go same found
 
 pub by_indexing : {A : Type 0} (P : NamedHeap → Type 0) (xs : List A) (i : ℕ) (default : A) (a : NamedHeap) (go : A → Outcome) → P a →
     (i < length xs → P (go (slice_index_or xs i default)).heap) → P (indexing xs i default a go).heap
-by_indexing P xs i default a go same found = by_test (λ (o : Outcome). P o.heap) (nat_lt i (length xs)) (go (slice_index_or xs i default)) _
-    (λ e. found (ltb-true i (length xs) e)) (λ e. same)
+by_indexing P xs i default a go same found = indexing_cases (λ (x : Outcome). P x.heap) xs i default a go same found
 
 -- what an option leads to
 pub and_then_parts : {A B : Type 0} (f : A → Option B) (o : Option A) (y : B) → option_and_then f o ≡ Some y → (x : A) × (o ≡ Some x) × (f x ≡ Some y)

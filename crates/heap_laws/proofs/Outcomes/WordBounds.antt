@@ -1,5 +1,5 @@
 -- The words of living values, and sums of raw words, are words of 64 bits.
-use Rattle.std.proofs.Common.{◌≡◌, ℕ, ℤ, ◌+◌, ◌-◌, ◌*◌, ◌%◌, ◌^◌, ◌<◌, ◌≤◌, List, length, Option, Some, refl, arith}
+use Rattle.std.proofs.Common.{ℕ, ℤ, ◌+◌, ◌-◌, ◌^◌, ◌<◌, ◌≤◌, length, arith}
 use Rattle.std.proofs.lemmas.Nat.{mod_below}
 use Rattle.std.specs.Prelude.{pos, negsuc}
 use Rattle.heap_terms.specs.declared.cells.Value.{Value}
@@ -8,9 +8,9 @@ use Rattle.heap_terms.specs.declared.kinds.Kind.{Kind}
 use Rattle.heap_terms.specs.declared.kinds.Kind.TheVariants as kinds
 use Rattle.heap_terms.specs.declared.limits.TheConstants.{MOST_PAGES}
 use Rattle.heap_terms.specs.Heap.{NamedHeap, object_at}
-use Rattle.heap_terms.specs.Layout.{base_address, lowtag_of, reference_word, fixnum_word}
+use Rattle.heap_terms.specs.Layout.{lowtag_of, fixnum_word}
 use Rattle.heap_terms.specs.Living.{IsLiving}
-use Rattle.heap_terms.specs.Objects.{Object, kind_of}
+use Rattle.heap_terms.specs.Objects.{kind_of}
 use Rattle.heap_terms.specs.RawCells.{word_plus}
 use Rattle.heap_terms.specs.Sound.{IsSound}
 use Rattle.heap_terms.specs.Valid.{IsFixnum}

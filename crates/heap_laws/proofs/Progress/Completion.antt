@@ -11,7 +11,7 @@ use Rattle.heap_terms.specs.Valid.{IsValid}
 use Rattle.heap_terms.specs.WellFormed.{IsWellFormed}
 use Rattle.heap_laws.proofs.Events.Appending.{LawfulFrom-append, replay_from-append}
 use Rattle.heap_laws.proofs.Termination.EventsLeft.{all_left_falls}
-use Rattle.heap_laws.proofs.Progress.NextEvent.{always_next}
+use Rattle.heap_laws.proofs.Progress.NextEvent.{someone_next}
 use Rattle.heap_laws.proofs.Events.Causes.{alive_thread}
 use Rattle.heap_laws.proofs.WellFormed.Replayed.{after-well_formed, replay-well_formed}
 
@@ -44,17 +44,17 @@ pub completed_within : (p : Program) (n : ℕ) (a : NamedHeap) → IsValid p →
 completed_within p zero a valid w most = elim (alive_or_all a) [
   | inr all ↦ ([], tt, all)
   | inl found ↦ (
-      let e = always_next p a found.0 valid w found.1 in
-      let falls = all_left_falls p a e.0 valid w e.2 in
+      let e = someone_next p a found.0 w found.1 in
+      let falls = all_left_falls p a e.0 valid w e.1 in
       absurd (omega arith))
 ]
 completed_within p (suc n) a valid w most = elim (alive_or_all a) [
   | inr all ↦ ([], tt, all)
   | inl found ↦ (
-      let e = always_next p a found.0 valid w found.1 in
-      let falls = all_left_falls p a e.0 valid w e.2 in
-      let rest = completed_within p n (after p a e.0) valid (after-well_formed p valid a e.0 e.2 w) (omega arith) in
-      (e.0 ∷ rest.0, (e.2, rest.1), rest.2))
+      let e = someone_next p a found.0 w found.1 in
+      let falls = all_left_falls p a e.0 valid w e.1 in
+      let rest = completed_within p n (after p a e.0) valid (after-well_formed p valid a e.0 e.1 w) (omega arith) in
+      (e.0 ∷ rest.0, (e.1, rest.1), rest.2))
 ]
 
 -- every lawful history of a valid program is the beginning of a complete one

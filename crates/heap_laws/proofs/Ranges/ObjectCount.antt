@@ -1,5 +1,5 @@
 -- A valid program makes at most 20,000 objects, and all of them are conses.
-use Rattle.std.proofs.Common.{◌≡◌, ℕ, ◌+◌, ◌<◌, ◌≤◌, List, [], length, map, Bool, true, inl, inr, refl, sym, ◌∙◌, subst, ap, arith, get_or}
+use Rattle.std.proofs.Common.{◌≡◌, ℕ, ◌+◌, ◌<◌, ◌≤◌, List, [], length, map, true, inl, inr, refl, sym, ◌∙◌, subst, ap, arith, get_or}
 use Rattle.std.proofs.lemmas.Bool.{cases_lt, cases_eq, false≢true}
 use Rattle.std.proofs.lemmas.List.{length-map, get_or-map, get_or_past}
 use Rattle.std.specs.List.{range_with_len, sum_by}
@@ -10,7 +10,6 @@ use Rattle.heap_terms.specs.declared.programs.Program.{Program}
 use Rattle.heap_terms.specs.declared.limits.TheConstants.{MOST_COMMANDS}
 use Rattle.heap_terms.specs.Heap.{NamedHeap, Thread, start, thread_at, fresh_thread, ended_thread}
 use Rattle.heap_terms.specs.Histories.{IsNext, after, Lawful, replay, script_of, thread_of}
-use Rattle.heap_laws.specs.Order.{is_end}
 use Rattle.heap_terms.specs.Valid.{IsValid}
 use Rattle.heap_terms.specs.WellFormed.{IsWellFormed}
 use Rattle.heap_laws.proofs.Events.Appending.{kept_by_events}
@@ -54,35 +53,46 @@ start-counted p = record {
   few = (let empty = start_empty p in omega arith);
 }
 
-pub moved-counted : (p : Program) (a b : NamedHeap) (t n : ℕ) (ends : Bool) → IsCounted p a → IsWellFormed p b → t < length p.threads → n ≤ 1 →
-    HasMoved p a b t n ends → IsCounted p b
-moved-counted p a b t n ends h w l one m = record {
-  formed = w;
-  within = λ u. elim (cases_eq u t) [
-    | inl same ↦ subst (λ (x : ℕ). (thread_at b x).done ≤ length (script_of p x)) (sym same)
-        (let done = m.done in let before = h.within t in elim (cases_lt 0 n) [
-          | inl some ↦ (let below = m.within some in omega arith)
-          | inr none ↦ omega arith
-        ])
-    | inr other ↦ rw (m.others u other).done (h.within u)
-  ];
-  over = λ u lu e. elim (cases_eq u t) [
-    | inl same ↦ subst (λ (x : ℕ). length (script_of p x) ≤ (thread_at b x).done) (sym same)
-        (let done = m.done in
-        let ended : (thread_at b t).ended ≡ true = subst (λ (x : ℕ). (thread_at b x).ended ≡ true) same e in
-        let over = m.over (sym m.ended ∙ ended) in omega arith)
-    | inr other ↦ rw (m.others u other).done (h.over u lu (sym (m.others u other).ended ∙ e))
-  ];
-  few = (
-      let f : ℕ → ℕ = λ u. (thread_at a u).done in
-      let g : ℕ → ℕ = λ u. (thread_at b u).done in
-      let change : sum_by g (range_with_len 0 (length p.threads)) + f t ≡ sum_by f (range_with_len 0 (length p.threads)) + g t =
-      sum_change f g t 0 (length p.threads) (omega arith) (omega arith) (λ u other. (m.others u other).done) in
-      let done = m.done in
-      let objects = m.objects in
-      let few = h.few in
-      omega arith);
-}
+-- an event is at most one command
+few_in : (e : Event) → commands_in e ≤ 1
+few_in (Did t c answer) = omega arith
+few_in (Opened t ty first k) = omega arith
+few_in (Collected t last passes) = omega arith
+few_in (Ended t) = omega arith
+
+pub moved-counted : (p : Program) (a b : NamedHeap) (event : Event) → IsCounted p a → IsWellFormed p b → thread_of event < length p.threads →
+    HasMoved p a b event → IsCounted p b
+moved-counted p a b event h w l m =
+    let t = thread_of event in
+    let n = commands_in event in
+    let one = few_in event in
+    record {
+      formed = w;
+      within = λ u. elim (cases_eq u t) [
+        | inl same ↦ subst (λ (x : ℕ). (thread_at b x).done ≤ length (script_of p x)) (sym same)
+            (let done = m.done in let before = h.within t in elim (cases_lt 0 n) [
+              | inl some ↦ (let below = m.within some in omega arith)
+              | inr none ↦ omega arith
+            ])
+        | inr other ↦ rw (m.others u other).done (h.within u)
+      ];
+      over = λ u lu e. elim (cases_eq u t) [
+        | inl same ↦ subst (λ (x : ℕ). length (script_of p x) ≤ (thread_at b x).done) (sym same)
+            (let done = m.done in
+            let ended : (thread_at b t).ended ≡ true = subst (λ (x : ℕ). (thread_at b x).ended ≡ true) same e in
+            let over = m.over (sym m.ended ∙ ended) in omega arith)
+        | inr other ↦ rw (m.others u other).done (h.over u lu (sym (m.others u other).ended ∙ e))
+      ];
+      few = (
+          let f : ℕ → ℕ = λ u. (thread_at a u).done in
+          let g : ℕ → ℕ = λ u. (thread_at b u).done in
+          let change : sum_by g (range_with_len 0 (length p.threads)) + f t ≡ sum_by f (range_with_len 0 (length p.threads)) + g t =
+          sum_change f g t 0 (length p.threads) (omega arith) (omega arith) (λ u other. (m.others u other).done) in
+          let done = m.done in
+          let objects = m.objects in
+          let few = h.few in
+          omega arith);
+    }
 
 -- the thread of an event is one of the program's
 pub event_thread : (p : Program) (a : NamedHeap) (e : Event) → IsValid p → IsWellFormed p a → IsNext p a e → thread_of e < length p.threads
@@ -90,16 +100,9 @@ event_thread p a e valid w next =
     let l = alive_thread a (thread_of e) (moves p a e valid w next).alive in
     let same = w.threads_length in omega arith
 
-pub few_in : (e : Event) → commands_in e ≤ 1
-few_in (Did t c answer) = omega arith
-few_in (Opened t ty first k) = omega arith
-few_in (Collected t last passes) = omega arith
-few_in (Ended t) = omega arith
-
 pub after-counted : (p : Program) → IsValid p → (a : NamedHeap) (e : Event) → IsNext p a e → IsCounted p a → IsCounted p (after p a e)
 after-counted p valid a e next h =
-    moved-counted p a (after p a e) (thread_of e) (commands_in e) (is_end e) h (after-well_formed p valid a e next h.formed)
-    (event_thread p a e valid h.formed next) (few_in e) (moves p a e valid h.formed next)
+    moved-counted p a (after p a e) e h (after-well_formed p valid a e next h.formed) (event_thread p a e valid h.formed next) (moves p a e valid h.formed next)
 
 pub replay-counted : (p : Program) (h : List Event) → IsValid p → Lawful p h → IsCounted p (replay p h)
 replay-counted p h valid lawful = kept_by_events p (λ a. IsCounted p a) (after-counted p valid) (start p) h (start-counted p) lawful

@@ -1,8 +1,7 @@
 -- What a region builds is the words of the slots.
-use Rattle.std.proofs.Common.{◌≡◌, ℕ, zero, suc, ◌+◌, ◌-◌, ◌*◌, ◌<◌, List, [], ◌∷◌, ◌++◌, length, map, replicate, Option, Some, None, refl, sym, ◌∙◌, ap, subst, arith, get_or}
+use Rattle.std.proofs.Common.{◌≡◌, ℕ, zero, suc, ◌+◌, ◌-◌, ◌*◌, ◌<◌, List, [], ◌∷◌, ◌++◌, length, map, replicate, Option, Some, refl, sym, ◌∙◌, ap, arith, get_or}
 use Rattle.std.proofs.lemmas.List.{length-map, map-append, get_or-map}
 use Rattle.std.proofs.lemmas.Option.{slice_get_within, slice_get-get_or, get_or_from_slice_get}
-use Rattle.std.proofs.lemmas.Simd.{map-map}
 use Rattle.std.specs.Prelude.{pos, flat_map, slice_get, slice_index, IfSome}
 use Rattle.heap_terms.specs.declared.cells.Value.{Value}
 use Rattle.heap_terms.specs.declared.cells.Value.TheVariants.{Unbound}

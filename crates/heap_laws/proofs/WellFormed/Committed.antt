@@ -206,6 +206,11 @@ large_run p a t kind size w large room =
     let in_run : run_has_room a.pages (thread_at a t).open_run (page_type_of kind) size ≡ true = rw large at room in
     has_run p a t (page_type_of kind) size w in_run
 
+-- the pages after a large object was put into its run
+pub pages_large : (a : NamedHeap) (t : ℕ) (kind : Kind) (size first : ℕ) → is_small size ≡ false → (thread_at a t).open_run ≡ Some first →
+    pages_after a t kind size ≡ with_large a.pages first size
+pages_large a t kind size first large open_is = rw (large, open_is) refl
+
 -- the heap after the commit of a large object, which uses the run up
 pub committed_large-counting : (p : Program) (a : NamedHeap) (t : ℕ) (c : Command) (kind : Kind) (n seed first : ℕ) → wish_of c ≡ Make kind n seed →
     is_small (size_of kind n) ≡ false → (thread_at a t).open_run ≡ Some first →
@@ -222,23 +227,19 @@ committed_large-counting p a t c kind n seed first wish large open_is =
     let place_is : place_for a t kind size ≡ page_words * first = rw large (ap (λ (x : ℕ). page_words * x) at) in
     let thread_is : run_used (thread_at a t) size ≡ without_run (thread_at a t) = rw large refl in
     let pages_are : pages_after a t kind size ≡ with_large a.pages first (words_of_object o) =
-    pages_large a t kind size large ∙ ap (λ (x : ℕ). with_large a.pages x size) at ∙ ap (λ (x : ℕ). with_large a.pages first x) size_is in
+    pages_large a t kind size first large open_is ∙ ap (λ (x : ℕ). with_large a.pages first x) size_is in
     ap (λ (x : ℕ). heap x (run_used (thread_at a t) size) (pages_after a t kind size)) place_is
     ∙ ap (λ (x : Thread). heap (page_words * first) x (pages_after a t kind size)) thread_is
     ∙ ap (λ (x : List Entry). heap (page_words * first) (without_run (thread_at a t)) x) pages_are
-  where
-    pages_large : (a : NamedHeap) (t : ℕ) (kind : Kind) (size : ℕ) → is_small size ≡ false → pages_after a t kind size ≡ with_large a.pages (large_page a t) size
-    pages_large a t kind size large = rw large refl
 
-pub committed_large-kept : (p : Program) (a : NamedHeap) (t : ℕ) (c : Command) (kind : Kind) (n seed : ℕ) → IsWellFormed p a → t < length p.threads → IsInRange c →
-    wish_of c ≡ Make kind n seed → is_small (size_of kind n) ≡ false → has_room a t kind (size_of kind n) ≡ true → IsWellFormed p (committed p a t c kind n)
-committed_large-kept p a t c kind n seed w l in_range wish large room =
-    let h = large_run p a t kind (size_of kind n) w large room in
+-- its object goes into that run
+pub goes_into : (a : NamedHeap) (t : ℕ) (c : Command) (kind : Kind) (n seed : ℕ) → wish_of c ≡ Make kind n seed → is_small (size_of kind n) ≡ false →
+    (h : HasRun a t (page_type_of kind) (pages_needed (size_of kind n))) → GoesInto a.pages (new_object a t c (page_words * h.first)) h.first
+goes_into a t c kind n seed wish large h =
     let o = new_object a t c (page_words * h.first) in
-    let b = heap_put a t o h.first in
     let kind_is = initial_kind a t c kind n seed wish in
     let size_is : words_of_object o ≡ size_of kind n = rw (kind_is, initial_payload a t c kind n seed wish) refl in
-    let goes : GoesInto a.pages o h.first = record {
+    record {
       large = rw size_is large;
       young = refl;
       place = refl;
@@ -246,10 +247,17 @@ committed_large-kept p a t c kind n seed w l in_range wish large room =
       each = (let each : (i : ℕ) → i < pages_needed (size_of kind n) → entry_at a.pages (h.first + i) ≡ Used (page_type_of (kind_of o.contents)) 0 0 h.first (pages_needed (size_of kind n)) =
           λ i l. h.each i l ∙ ap (λ (x : Kind). Used (page_type_of x) 0 0 h.first (pages_needed (size_of kind n))) (sym kind_is) in
           rw size_is each);
-    } in
+    }
+
+pub committed_large-kept : (p : Program) (a : NamedHeap) (t : ℕ) (c : Command) (kind : Kind) (n seed : ℕ) → IsWellFormed p a → t < length p.threads → IsInRange c →
+    wish_of c ≡ Make kind n seed → is_small (size_of kind n) ≡ false → has_room a t kind (size_of kind n) ≡ true → IsWellFormed p (committed p a t c kind n)
+committed_large-kept p a t c kind n seed w l in_range wish large room =
+    let h = large_run p a t kind (size_of kind n) w large room in
+    let o = new_object a t c (page_words * h.first) in
+    let b = heap_put a t o h.first in
     let living : IsLiving b.objects (values.Ref (length a.objects)) = rw (get_or_push a.objects (Some o) None (length a.objects) refl) refl in
     let kept = with_destination-kept p b t (destination_of c) (values.Ref (length a.objects))
-    (put-kept p a t o h.first w goes h.open_is (initial_living p a t c w l) (initial_shape a t c in_range)) living in
+    (put-kept p a t o h.first w (goes_into a t c kind n seed wish large h) h.open_is (initial_living p a t c w l) (initial_shape a t c in_range)) living in
     subst (λ (x : NamedHeap). IsWellFormed p x) (sym (committed_large-counting p a t c kind n seed h.first wish large h.open_is))
     (counting-kept p (with_destination b t (destination_of c) (values.Ref (length a.objects))) t (size_of kind n) kept)
 

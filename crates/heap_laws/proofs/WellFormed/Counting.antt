@@ -4,7 +4,6 @@ use Rattle.std.proofs.lemmas.Bool.{cases_Bool, eq-eqb, ltb-true, false≢true}
 use Rattle.std.specs.Prelude.{IfSome, if◌then◌else◌, ◌==◌, nat_lt, nat_le, unwrap_or}
 use Rattle.heap_terms.specs.declared.programs.Program.{Program}
 use Rattle.heap_terms.specs.Heap.{NamedHeap, Thread, thread_at}
-use Rattle.heap_terms.specs.Objects.{Object}
 use Rattle.heap_terms.specs.Regions.{triggers, counting}
 use Rattle.heap_terms.specs.WellFormed.{IsWellFormed}
 use Rattle.heap_laws.proofs.WellFormed.Threads.{HasCells, cells_of, cells-kept, same_regions, same_sound}

@@ -1,24 +1,22 @@
 -- A well-formed heap stays well-formed when a large object is put into its thread's open run.
 use Rattle.std.proofs.Common.{◌≡◌, ◌≢◌, ℕ, suc, ◌+◌, ◌-◌, ◌*◌, ◌/◌, ◌%◌, ◌<◌, ◌≤◌, List, [], ◌∷◌, ◌++◌, length, take, drop, replicate, set, Option, Some, None, true, false, ◌⊎◌, inl, inr, refl, sym, ◌∙◌, subst, ap, arith}
-use Rattle.std.proofs.lemmas.Bool.{cases_lt, cases_eq, cases_Bool, and_parts, eqb-true, false≢true}
+use Rattle.std.proofs.lemmas.Bool.{cases_lt, cases_eq, and_parts, eqb-true, false≢true}
 use Rattle.std.proofs.lemmas.List.{length-append, length-take-le, length-drop, length-replicate, length-set, get_or-take, get_or-drop, get_or-replicate, get_or_append_left, get_or-append_right}
 use Rattle.heap_terms.specs.declared.kinds.PageType.{PageType}
 use Rattle.heap_terms.specs.declared.kinds.PageType.TheVariants as types
 use Rattle.heap_terms.specs.declared.pages.Entry.{Entry}
 use Rattle.heap_terms.specs.declared.pages.Entry.TheVariants.{Free, Used}
 use Rattle.heap_terms.specs.declared.programs.Program.{Program}
-use Rattle.heap_terms.specs.Heap.{NamedHeap, Thread, object_at, entry_at, thread_at, with_thread, fill_of, open_page}
+use Rattle.heap_terms.specs.Heap.{NamedHeap, Thread, entry_at, thread_at, with_thread, open_page}
 use Rattle.heap_terms.specs.Layout.{page_words, page_type_of}
 use Rattle.heap_terms.specs.Living.{HoldsLiving, IsShaped}
 use Rattle.heap_terms.specs.Objects.{Object, kind_of, payload_of, words_of_object}
 use Rattle.heap_terms.specs.OnPages.{IsPlaced, IsOnPage, IsPageOfRun, AreApart, IsFill, IsEntry, IsInRun}
 use Rattle.heap_terms.specs.Regions.{is_small, pages_needed, same_type, entry_is_run, run_has_room, with_fill, with_large}
-use Rattle.heap_terms.specs.Sound.{IsSound}
 use Rattle.heap_terms.specs.WellFormed.{IsWellFormed, IsThread, IsOpenPage, IsOpenRun, IsOpenRunPage}
-use Rattle.heap_laws.proofs.Lists.Places.{IfSome-at}
 use Rattle.heap_laws.proofs.WellFormed.LivingValues.{AllStay, AreLiving-stays, push_stays}
 use Rattle.heap_laws.proofs.WellFormed.ObjectAdded.{added-sound, by_name, cells_stay, entry_fill}
-use Rattle.heap_laws.proofs.WellFormed.PagesStay.{StaysInRun, StaysInRun-same, IsInRun-stays, size_even, large_least, large_needs, needs_two}
+use Rattle.heap_laws.proofs.WellFormed.PagesStay.{StaysInRun, StaysInRun-same, IsInRun-stays, size_even, large_least, large_needs}
 use Rattle.heap_laws.proofs.WellFormed.Threads.{HasCells, cells_of, thread_from, changed_thread, other_thread, own_kept, open_page_used, open_run_used, same_sound, HasNoMore}
 use Rattle.pass_laws.proofs.Sizes.{apart_above}
 
@@ -167,8 +165,12 @@ module _ (pages : List Entry) (o : Object) (first : ℕ) (g : GoesInto pages o f
           let at : first + (i - first) ≡ i = omega arith in
           let old : entry_at pages i ≡ Used ty 0 0 first k = subst (λ (x : ℕ). entry_at pages x ≡ Used ty 0 0 first k) at (g.each (i - first) (omega arith)) in
           elim (cases_lt ((i - first) + 1) k) [
-            | inl more ↦ inr (page_words, record { even = refl; most = omega arith }, old,
-              subst (λ (x : ℕ). entry_at new x ≡ Used ty 0 page_words first k) at (run.full (i - first) more))
+            | inl more ↦ inr (
+              page_words,
+              record { even = refl; most = omega arith },
+              old,
+              subst (λ (x : ℕ). entry_at new x ≡ Used ty 0 page_words first k) at (run.full (i - first) more),
+            )
             | inr end ↦ (
                 let rest = size - page_words * (k - 1) in
                 let two = count.0 in
@@ -176,8 +178,12 @@ module _ (pages : List Entry) (o : Object) (first : ℕ) (g : GoesInto pages o f
                 let just = count.2 in
                 let at' : first + (k - 1) ≡ i = omega arith in
                 let is_even = even in
-                inr (rest, record { even = omega arith; most = omega arith }, old,
-                subst (λ (x : ℕ). entry_at new x ≡ Used ty 0 rest first k) at' run.last))
+                inr (
+                  rest,
+                  record { even = omega arith; most = omega arith },
+                  old,
+                  subst (λ (x : ℕ). entry_at new x ≡ Used ty 0 rest first k) at' run.last,
+                ))
           ])
     ]
   ]

@@ -8,7 +8,7 @@ use Rattle.heap_terms.specs.declared.kinds.PageType.TheVariants as types
 use Rattle.heap_terms.specs.declared.pages.Entry.{Entry}
 use Rattle.heap_terms.specs.declared.pages.Entry.TheVariants.{Free, Used}
 use Rattle.heap_terms.specs.declared.programs.Program.{Program}
-use Rattle.heap_terms.specs.Heap.{NamedHeap, Thread, object_at, entry_at, thread_at, with_thread, open_page, with_open_page}
+use Rattle.heap_terms.specs.Heap.{NamedHeap, Thread, entry_at, thread_at, with_thread, open_page, with_open_page}
 use Rattle.heap_terms.specs.Objects.{Object}
 use Rattle.heap_terms.specs.Regions.{IsFreeRun, is_free, with_run, opened}
 use Rattle.heap_terms.specs.OnPages.{IsEntry, IsInRun}

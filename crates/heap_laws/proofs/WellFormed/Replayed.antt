@@ -1,22 +1,20 @@
 -- Every lawful history of a valid program leaves a well-formed heap.
-use Rattle.std.proofs.Common.{◌≡◌, ℕ, ◌^◌, ◌<◌, ◌≤◌, List, [], length, Some, true, false, refl, arith}
-use Rattle.std.specs.Prelude.{slice_get}
+use Rattle.std.proofs.Common.{◌≡◌, ℕ, ◌^◌, ◌<◌, ◌≤◌, List, [], length, Bool, false, refl, arith}
 use Rattle.heap_terms.specs.declared.commands.Command.{Command}
 use Rattle.heap_terms.specs.declared.events.Event.{Event}
-use Rattle.heap_terms.specs.declared.kinds.Kind.{Kind}
 use Rattle.heap_terms.specs.declared.limits.TheConstants.{MOST_PAGES}
 use Rattle.heap_terms.specs.declared.programs.Program.{Program}
 use Rattle.heap_terms.specs.Heap.{NamedHeap, Thread, start, thread_at, with_thread}
-use Rattle.heap_terms.specs.Histories.{IsNext, after, Lawful, LawfulFrom, replay, replay_from, script_of}
+use Rattle.heap_terms.specs.Histories.{IsNext, after, Lawful, LawfulFrom, replay, replay_from}
 use Rattle.heap_terms.specs.Layout.{size_of}
 use Rattle.heap_terms.specs.Outcomes.{outcome_of}
-use Rattle.heap_terms.specs.Regions.{Make, wish_of, is_small, committed}
-use Rattle.heap_terms.specs.Valid.{IsValid, IsInRange}
+use Rattle.heap_terms.specs.Regions.{committed}
+use Rattle.heap_terms.specs.Valid.{IsValid, IsInRange, is_gc}
 use Rattle.heap_terms.specs.WellFormed.{IsWellFormed}
 use Rattle.heap_laws.proofs.Events.Appending.{kept_by_events}
 use Rattle.heap_laws.proofs.Events.Causes.{by_events}
 use Rattle.heap_laws.proofs.Outcomes.Changes.{IsRewritten, by_outcome}
-use Rattle.heap_laws.proofs.Programs.BuiltCommands.{script_thread, script_command, only_cons_built}
+use Rattle.heap_laws.proofs.Programs.BuiltCommands.{script_thread, script_command}
 use Rattle.heap_laws.proofs.WellFormed.Committed.{committed-kept}
 use Rattle.heap_laws.proofs.WellFormed.FieldWritten.{written-kept, queued-kept}
 use Rattle.heap_laws.proofs.WellFormed.LivingValues.{AreBelow-nil}
@@ -26,19 +24,19 @@ use Rattle.pass_laws.proofs.Collecting.{collected-well_formed}
 use Rattle.heap_laws.proofs.WellFormed.Threads.{start-well_formed, cells-kept, same_regions, with_cell-kept, advance-kept, ended-kept}
 
 -- a thread with other words and numbers
-rewritten-kept : (p : Program) (a : NamedHeap) (t : ℕ) (th : Thread) → IsWellFormed p a → IsRewritten a.objects (thread_at a t) th → IsWellFormed p (with_thread a t th)
-rewritten-kept p a t th w r = cells-kept p a t th w (λ l. r.cells) (same_regions (thread_at a t) th r.cons_page r.boxed_page r.unboxed_page r.run)
+rewritten-kept : (p : Program) (a : NamedHeap) (t : ℕ) (asks : Bool) (th : Thread) → IsWellFormed p a → IsRewritten a.objects asks (thread_at a t) th → IsWellFormed p (with_thread a t th)
+rewritten-kept p a t asks th w r = cells-kept p a t th w (λ l. r.cells) (same_regions (thread_at a t) th r.cons_page r.boxed_page r.unboxed_page r.run)
 
 -- a command that allocates nothing
 pub outcome-kept : (p : Program) (a : NamedHeap) (t : ℕ) (c : Command) → IsWellFormed p a → p.pages ≤ MOST_PAGES → t < length p.threads → (thread_at a t).ended ≡ false →
     IsInRange c → IsWellFormed p (outcome_of a t c).heap
-outcome-kept p a t c w few l alive in_range = by_outcome p a t (λ b. IsWellFormed p b) w few l alive w
+outcome-kept p a t c w few l alive in_range = by_outcome p a t (λ b. IsWellFormed p b) w few l alive (is_gc c) w
     (λ d v living. with_cell-kept p a t d v w living)
-    (λ th r. rewritten-kept p a t th w r)
+    (λ th r. rewritten-kept p a t (is_gc c) th w r)
     (λ name o q e same living shape. written-kept p a name o q w e same living shape)
     (λ fs all. queued-kept p a fs a.queue w all w.sound.queue)
     (queued-kept p a a.finalizers [] w w.sound.finalizers (AreBelow-nil (2 ^ 32) (omega arith)))
-    c in_range
+    c refl in_range
 
 -- each event keeps a heap of a valid program well-formed
 pub after-well_formed : (p : Program) → IsValid p → (a : NamedHeap) (e : Event) → IsNext p a e → IsWellFormed p a → IsWellFormed p (after p a e)

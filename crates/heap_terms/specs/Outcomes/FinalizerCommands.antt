@@ -1,6 +1,6 @@
 -- The commands on finalizers: `finalize`, `cancel`, `runfin`. After SBCL's finalize and cancel-finalization, which
 -- cancels all of an object's; the list, its order and the queue are this project's own. Nothing is left free.
-use Rattle.std.specs.Prelude.{ℕ, ◌==◌, List, [], ◌∷◌, ◌++◌, length, filter, count_by, not, if◌then◌else◌}
+use Rattle.std.specs.Prelude.{ℕ, ◌==◌, [], ◌∷◌, ◌++◌, length, filter, count_by, not, if◌then◌else◌}
 use Rattle.heap_terms.specs.declared.answers.Answer.TheVariants.{Count, Absent, Ran}
 use Rattle.heap_terms.specs.declared.cells.Cell.{Cell}
 use Rattle.heap_terms.specs.Cells.{cell_value}

@@ -1,13 +1,11 @@
 -- The commands on raw words: `addr`, `raw`, `add`, `rawget`, `rawput`. They are this project's own. Nothing is left
 -- free: `!type` comes where there are no raw words, and `!range` where there is no such word.
-use Rattle.std.specs.Prelude.{ℕ, ℤ, List, Option, option_and_then, slice_set}
+use Rattle.std.specs.Prelude.{ℕ, ℤ, slice_set}
 use Rattle.heap_terms.specs.declared.answers.Answer.TheVariants.{Word}
 use Rattle.heap_terms.specs.declared.cells.Cell.{Cell}
 use Rattle.heap_terms.specs.declared.cells.Raw.{Raw}
-use Rattle.heap_terms.specs.declared.cells.Value.{Value}
 use Rattle.heap_terms.specs.Cells.{cell_value}
 use Rattle.heap_terms.specs.Heap.{NamedHeap}
-use Rattle.heap_terms.specs.Objects.{Object}
 use Rattle.heap_terms.specs.Outcome.{Outcome, done, answering, needing, indexing}
 use Rattle.heap_terms.specs.RawCells.{raw_value, with_raw, word_plus}
 use Rattle.heap_terms.specs.Referents.{raws_at, with_raws, changed_at}

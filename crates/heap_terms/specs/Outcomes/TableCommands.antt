@@ -1,6 +1,6 @@
 -- The commands on tables: `tput`, `tget`, `trem`, `tcount`. Tables go by identity, as SBCL's EQ tables; that a table
 -- does not grow is this project's own. Nothing is left free: `!full` comes where a new key finds no room.
-use Rattle.std.specs.Prelude.{ℕ, ◌||◌, List, length, Option, Some, None, option_and_then, if◌then◌else◌, nat_lt}
+use Rattle.std.specs.Prelude.{ℕ, ◌||◌, List, length, Option, Some, None, if◌then◌else◌, nat_lt}
 use Rattle.heap_terms.specs.declared.answers.Answer.TheVariants.{Val, Yes, No, Absent, Count}
 use Rattle.heap_terms.specs.declared.answers.Refusal.TheVariants.{TableFull}
 use Rattle.heap_terms.specs.declared.cells.Cell.{Cell}
@@ -8,7 +8,6 @@ use Rattle.heap_terms.specs.declared.cells.Value.{Value}
 use Rattle.heap_terms.specs.declared.cells.Value.TheVariants as values
 use Rattle.heap_terms.specs.Cells.{cell_value, with_cell}
 use Rattle.heap_terms.specs.Heap.{NamedHeap}
-use Rattle.heap_terms.specs.Objects.{Object}
 use Rattle.heap_terms.specs.Outcome.{Outcome, done, answering, refused, needing}
 use Rattle.heap_terms.specs.Pairs.{has_key, value_at, with_pair, without_key}
 use Rattle.heap_terms.specs.Referents.{table_at, with_pairs, changed_at}

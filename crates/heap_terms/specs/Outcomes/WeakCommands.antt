@@ -1,13 +1,12 @@
 -- The command on weak pointers, `weakval`. After SBCL's weak-pointer-value: the value while the pointer is valid, and
 -- NIL once it is broken. Nothing is left free.
-use Rattle.std.specs.Prelude.{ℕ, List, Option, option_and_then}
+use Rattle.std.specs.Prelude.{ℕ}
 use Rattle.heap_terms.specs.declared.answers.Answer.TheVariants.{Live, Broken}
 use Rattle.heap_terms.specs.declared.cells.Cell.{Cell}
 use Rattle.heap_terms.specs.declared.cells.Value.{Value}
 use Rattle.heap_terms.specs.declared.cells.Value.TheVariants as values
 use Rattle.heap_terms.specs.Cells.{cell_value, with_cell}
 use Rattle.heap_terms.specs.Heap.{NamedHeap}
-use Rattle.heap_terms.specs.Objects.{Object}
 use Rattle.heap_terms.specs.Outcome.{Outcome, answering, needing}
 use Rattle.heap_terms.specs.Referents.{pointee_at}
 

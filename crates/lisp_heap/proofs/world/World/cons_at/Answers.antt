@@ -1,7 +1,7 @@
 -- Where the cons of a living value's word is.
 use Rattle.std.proofs.Common.{◌≡◌, ℕ, subst, sym, refl, Option, None}
 use Rattle.heap_terms.specs.declared.cells.Value.{Value}
-use Rattle.heap_terms.specs.Simple.{fields_at}
+use Rattle.heap_terms.specs.Referents.{fields_at}
 use Rattle.heap_terms.specs.WellFormed.{IsLiving}
 use Rattle.heap_terms.specs.Spelling.{word_of}
 use Rattle.lisp_words.specs.declared.pointers.Lowtag.TheVariants as lowtags

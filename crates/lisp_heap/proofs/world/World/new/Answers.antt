@@ -17,9 +17,9 @@ invariant_of-world c =
       cells = c.in_ok-cells.cells;
       states = c.in_ok-states.states;
       commits = 0;
-      history = c.new-5.result;
+      history = c.in_ok-history.history;
     } in
-    starts_sound s c.requires c.new-5.ensures.items
+    starts_sound s c.requires c.in_ok-history.ensures.items
     (fresh_is s c.in_ok-space.ensures c.in_ok-pages.ensures c.in_ok-labels.ensures
     (c.in_ok-cells.ensures ∙ ap zero_cells c.len-threads.ensures)
     (c.in_ok-states.ensures ∙ ap (λ (n : ℕ). replicate n fresh_state) c.len-threads.ensures) refl)

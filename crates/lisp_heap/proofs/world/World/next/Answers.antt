@@ -7,6 +7,7 @@ use Rattle.heap_terms.specs.declared.pages.Next.TheVariants as nexts
 use Rattle.heap_terms.specs.Heap.{thread_at}
 use Rattle.heap_terms.specs.Histories.{command_at, next_command, next_for}
 use Rattle.heap_terms.specs.Regions.{wish_of}
+use Rattle.heap_laws.proofs.NextEvents.{replay-owes}
 use Rattle.heap_laws.proofs.ValidScripts.{script_command}
 use Rattle.lisp_heap.specs.Agreement.{Agrees, CanBuild}
 use Rattle.lisp_heap.specs.Sound.{view_of, IsSound}
@@ -37,7 +38,7 @@ alive : (s : Inside) (w : View) (t : ℕ) (state : ThreadState) (o : Option Comm
 alive s w t state o n h view lt known going at is =
     is ∙ ap (next_command (heap_of w) t) at
     ∙ subst (λ (x : View). next_command (heap_of x) t (command_at x.program (heap_of x) t) ≡ next_of x t) view
-    (next_alive s.program (heap s) t (ap (λ (x : ThreadState). x.ended) (sym known) ∙ going) ((well_formed s h).owes_nothing t))
+    (next_alive s.program (heap s) t (ap (λ (x : ThreadState). x.ended) (sym known) ∙ going) (replay-owes s.program s.history.items h.valid h.lawful t))
 
 pub next_for-requires : goal.next_for-requires
 next_for-requires c =
