@@ -1,10 +1,9 @@
 -- The objects of a heap on a stretch of words, taken one after another.
-use Rattle.std.proofs.Common.{◌≡◌, ℕ, suc, ◌+◌, ◌<◌, ◌≤◌, List, [], ◌∷◌, length, get_or, inl, inr, Some, sym, ap, arith}
+use Rattle.std.proofs.Common.{ℕ, suc, ◌<◌, ◌≤◌, List, [], ◌∷◌, inl, inr, ap, arith}
 use Rattle.std.proofs.lemmas.List.Elements.{All-head, All-tail, All-contains}
-use Rattle.std.specs.Prelude.{All, AllPairs, Contains}
-use Rattle.heap_terms.specs.Heap.{NamedHeap, object_at}
+use Rattle.std.specs.Prelude.{All, AllPairs}
+use Rattle.heap_terms.specs.Heap.{NamedHeap}
 use Rattle.heap_terms.specs.LaidOut.{ObjectStart, HasObject, AreHeapsObjects, start_of}
-use Rattle.heap_terms.specs.Objects.{Object}
 use Rattle.object_walk.specs.Laws.{BeginsNoneIn, IsFirstObject}
 use Rattle.object_walk.proofs.Searched.{contains_cases, contains_none}
 

@@ -1,6 +1,6 @@
 -- Laws of walks: the words of a page tell its pieces, and where they stand for a heap these are the heap's objects, with
 -- fillers between them.
-use Rattle.std.specs.Prelude.{◌≡◌, ℕ, ◌+◌, ◌*◌, ◌<◌, ◌≤◌, List, [], ◌∷◌, Option, Some}
+use Rattle.std.specs.Prelude.{◌≡◌, ℕ, ◌+◌, ◌*◌, ◌<◌, ◌≤◌, List, [], ◌∷◌, Some}
 use Rattle.heap_terms.specs.Heap.{NamedHeap, object_at}
 use Rattle.heap_terms.specs.Layout.{page_words}
 use Rattle.heap_terms.specs.LaidOut.{Piece, AreLaidOut, IsLaidOut, ObjectStart, AreObjectsOn, HasObject, AreHeapsObjects}
