@@ -35,7 +35,7 @@ use Rattle.heap_terms.specs.OnPages.{BelongsTo}
 use Rattle.lisp_heap.specs.Agreement.{Agrees, small_out}
 use Rattle.lisp_heap.specs.CellsView.{with_cell_word, CellsView}
 use Rattle.lisp_heap.specs.ParcelView.{ParcelView, LeaseView, place_of, with_accepted, cons_accepted}
-use Rattle.lisp_heap.specs.Sound.{IsSound}
+use Rattle.lisp_heap.specs.WorldSound.{IsSound}
 use Rattle.lisp_heap.specs.Parts.{Parts}
 use Rattle.lisp_heap.specs.Standing.{Holds, CellsStand, LabelsStand}
 use Rattle.lisp_heap.specs.State.{state_of, advanced, fresh_state}
