@@ -40,7 +40,7 @@ HeapsAreSmall = (p : Program) (h : List Event) → IsValid p → Lawful p h →
     (length (replay p h).objects ≤ MOST_COMMANDS)
     × ((name : ℕ) → IfSome (object_at (replay p h).objects name) (λ o. kind_of o.contents ≡ kinds.Cons))
 
--- until collections are built no thread owes one
+-- until collections are built a collection is never what a thread does next
 abbrev pub NobodyCollects : Type 0
 NobodyCollects = (p : Program) (h : List Event) (t last : ℕ) → IsValid p → Lawful p h → ¬ (next p (replay p h) t ≡ nexts.Collect last)
 

@@ -26,7 +26,8 @@ pub fn heaps_are_small()
     ensures { HeapsAreSmall }
 {}
 
-/// Holds until collections are built: no thread of a valid program owes one.
+/// Holds until collections are built: a collection is never what a thread of a valid program does
+/// next.
 pub fn nobody_collects()
     ensures { NobodyCollects }
 {}

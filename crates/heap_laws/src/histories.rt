@@ -45,8 +45,8 @@ pub fn scripts_are_done()
 {}
 
 /// Every event of a lawful history of a valid program has a command that is built, an answer that
-/// such a command gives, and numbers in their ranges. Holds until collections are built: none is
-/// among the events.
+/// such a command gives, and numbers in their ranges; so have the records of collections, of which
+/// no valid program has one until they are built.
 pub fn events_are_plain()
     ensures { EventsArePlain }
 {}

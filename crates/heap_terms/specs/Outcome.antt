@@ -1,5 +1,5 @@
--- What a command comes to: its answer and the heap after it, but for the thread's place in its script. The answers and the order of the refusals are this project's own. Nothing is left free: the heap and
--- the command decide both.
+-- What a command comes to: its answer and the heap after it, but for the thread's place in its script. The answers and
+-- the order of the refusals are this project's own. Nothing is left free: the heap and the command decide both.
 use Rattle.std.specs.Prelude.{ℕ, List, length, Option, Some, None, if◌then◌else◌, nat_lt, slice_index_or}
 use Rattle.heap_terms.specs.declared.answers.Answer.{Answer}
 use Rattle.heap_terms.specs.declared.answers.Answer.TheVariants.{Done, Refused}

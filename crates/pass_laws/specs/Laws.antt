@@ -73,7 +73,7 @@ abbrev pub UnreachedGo : Type 0
 UnreachedGo = (a : NamedHeap) (g h : ℕ) (r : PassRecord) (name : ℕ) (set : ℕ → Bool) → IsPass a g h r → IsClosed a g set → set name ≡ false →
     object_at (after_pass a r).objects name ≡ None
 
--- the fields and raw words of an object that is there are as they were
+-- the fields of an object that is there are as they were
 abbrev pub FieldsStay : Type 0
 FieldsStay = (a : NamedHeap) (g h : ℕ) (r : PassRecord) (name : ℕ) (o q : Object) → IsPass a g h r → object_at a.objects name ≡ Some o →
     object_at (after_pass a r).objects name ≡ Some q → (vs : List Value) → fields_of o.contents ≡ Some vs → fields_of q.contents ≡ Some vs
