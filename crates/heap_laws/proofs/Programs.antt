@@ -1,3 +1,4 @@
 -- Programs that a script can be read as.
 pub mod BuiltCommands
+pub mod Limits
 pub mod OweNothing

@@ -11,6 +11,7 @@ use Rattle.heap_terms.specs.Histories.{IsNext, after, next, Lawful, LawfulFrom, 
 use Rattle.heap_laws.specs.Remaining.{all_left, events_at_most, most_events}
 use Rattle.heap_terms.specs.Objects.{kind_of}
 use Rattle.heap_laws.specs.Order.{commands_of, events_of, EndsOnce, orders_of}
+use Rattle.heap_laws.specs.Limited.{IsLimited}
 use Rattle.heap_laws.specs.Plain.{IsPlain}
 use Rattle.heap_laws.specs.HeapRuns.{IsRunOf}
 use Rattle.heap_terms.specs.Valid.{IsValid}
@@ -21,9 +22,17 @@ abbrev pub HistoriesGrow : Type 0
 HistoriesGrow = (p : Program) (h : List Event) (e : Event) → Lawful p h → IsNext p (replay p h) e →
     Lawful p (h ++ e ∷ []) × (replay p (h ++ e ∷ []) ≡ after p (replay p h) e)
 
--- every lawful history of a valid program leaves a well-formed heap
+-- a valid program is within the limits
+abbrev pub ValidAreLimited : Type 0
+ValidAreLimited = (p : Program) → IsValid p → IsLimited p
+
+-- every event, a collection too, keeps a heap well-formed
+abbrev pub EventsKeepHeaps : Type 0
+EventsKeepHeaps = (p : Program) (a : NamedHeap) (e : Event) → IsLimited p → IsWellFormed p a → IsNext p a e → IsWellFormed p (after p a e)
+
+-- so every lawful history leaves a well-formed heap
 abbrev pub HeapsAreWellFormed : Type 0
-HeapsAreWellFormed = (p : Program) (h : List Event) → IsValid p → Lawful p h → IsWellFormed p (replay p h)
+HeapsAreWellFormed = (p : Program) (h : List Event) → IsLimited p → Lawful p h → IsWellFormed p (replay p h)
 
 -- of at most 20,000 objects; until more kinds are built, all of them conses
 abbrev pub HeapsAreSmall : Type 0
@@ -39,9 +48,8 @@ NobodyCollects = (p : Program) (h : List Event) (t last : ℕ) → IsValid p →
 -- from its program, and never more than 41,168
 abbrev pub HistoriesEnd : Type 0
 HistoriesEnd =
-    ((p : Program) (h : List Event) (e : Event) → IsValid p → Lawful p h → IsNext p (replay p h) e →
-    all_left p (after p (replay p h) e) + 1 ≤ all_left p (replay p h))
-    × ((p : Program) (h : List Event) → IsValid p → Lawful p h → length h ≤ events_at_most p)
+    ((p : Program) (a : NamedHeap) (e : Event) → IsLimited p → IsWellFormed p a → IsNext p a e → all_left p (after p a e) + 1 ≤ all_left p a)
+    × ((p : Program) (h : List Event) → IsLimited p → Lawful p h → length h ≤ events_at_most p)
     × ((p : Program) → IsValid p → events_at_most p ≤ most_events)
 
 -- until collections are built each thread that has not ended has an event that may come next
@@ -49,14 +57,14 @@ abbrev pub ThreadsGoOn : Type 0
 ThreadsGoOn = (p : Program) (h : List Event) (t : ℕ) → IsValid p → Lawful p h → (thread_at (replay p h) t).ended ≡ false →
     (e : Event) × (thread_of e ≡ t) × IsNext p (replay p h) e
 
--- while some thread has not ended some event may come next, collections or not
+-- while some thread has not ended some event may come next, in every well-formed heap: a collection that is due waits only
+-- for threads that inhibit, and those go on
 abbrev pub HistoriesGoOn : Type 0
-HistoriesGoOn = (p : Program) (h : List Event) (t : ℕ) → IsValid p → Lawful p h → (thread_at (replay p h) t).ended ≡ false →
-    (e : Event) × IsNext p (replay p h) e
+HistoriesGoOn = (p : Program) (a : NamedHeap) (t : ℕ) → IsWellFormed p a → (thread_at a t).ended ≡ false → (e : Event) × IsNext p a e
 
 -- so that every history is the beginning of a complete one
 abbrev pub HistoriesComplete : Type 0
-HistoriesComplete = (p : Program) (h : List Event) → IsValid p → Lawful p h → (more : List Event) × IsComplete p (h ++ more)
+HistoriesComplete = (p : Program) (h : List Event) → IsLimited p → Lawful p h → (more : List Event) × IsComplete p (h ++ more)
 
 -- runs as a relation are the lawful lists of events, with the heap that they replay to
 abbrev pub RunsAreLawful : Type 0
@@ -66,10 +74,10 @@ RunsAreLawful = (p : Program) (a : NamedHeap) (h : List Event) (b : NamedHeap) �
 -- in a complete history each thread does the commands of its script once and in order, and its last event is its
 -- only end
 abbrev pub ScriptsAreDone : Type 0
-ScriptsAreDone = (p : Program) (h : List Event) (t : ℕ) → IsValid p → IsComplete p h → t < length p.threads →
+ScriptsAreDone = (p : Program) (h : List Event) (t : ℕ) → IsLimited p → IsComplete p h → t < length p.threads →
     (commands_of t h ≡ script_of p t) × EndsOnce t (events_of t h)
 
--- every event of a lawful history of a valid program is plain; until collections are built none is one
+-- every event of a lawful history of a valid program is plain, collections too
 abbrev pub EventsArePlain : Type 0
 EventsArePlain = (p : Program) (h : List Event) → IsValid p → Lawful p h → All IsPlain h
 

@@ -1,3 +1,4 @@
+pub mod Limited
 pub mod Remaining
 pub mod HeapRuns
 pub mod Order

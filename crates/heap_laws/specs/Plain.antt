@@ -1,12 +1,13 @@
 -- What stands in the events of a valid program: the commands that are built, and numbers in their ranges.
-use Rattle.std.specs.Prelude.{◌<◌, ◌≤◌}
+use Rattle.std.specs.Prelude.{◌<◌, ◌≤◌, All}
 use Rattle.heap_terms.specs.declared.answers.Answer.{Answer}
 use Rattle.heap_terms.specs.declared.answers.Answer.TheVariants.{Done, Val, Word, Yes, No, Absent, Live, Broken, Count, Ran, Page, Stat, Placed, Refused}
 use Rattle.heap_terms.specs.declared.cells.Value.{Value}
 use Rattle.heap_terms.specs.declared.cells.Value.TheVariants.{Fix, Nil, Unbound, Ref}
 use Rattle.heap_terms.specs.declared.events.Event.{Event}
 use Rattle.heap_terms.specs.declared.events.Event.TheVariants.{Did, Opened, Collected, Ended}
-use Rattle.heap_terms.specs.declared.limits.TheConstants.{MOST_COMMANDS, MOST_PAGES, MOST_THREADS, MOST_WORDS}
+use Rattle.heap_terms.specs.declared.limits.TheConstants.{MOST_COMMANDS, MOST_PAGES, MOST_THREADS, MOST_WORDS, OLDEST_COLLECTED}
+use Rattle.pass_laws.specs.PlainRecords.{IsPlainRecord}
 use Rattle.heap_terms.specs.Valid.{IsFixnum, IsCommand}
 
 -- a value that a cell can hold, with one of at most 20,000 names
@@ -33,10 +34,9 @@ IsPlainAnswer (Stat allocated cum num) = ⊥
 IsPlainAnswer (Placed name index) = (name < MOST_COMMANDS) × (index < MOST_WORDS)
 IsPlainAnswer (Refused why) = Unit {0}
 
--- an event of one of at most 8 threads, with a command and an answer as above; until collections are built there
--- is no event of one
+-- an event of one of at most 8 threads: with a command and an answer as above, or with the records of a collection's passes
 abbrev pub IsPlain : Event → Type 0
 IsPlain (Did t c answer) = (t < MOST_THREADS) × IsCommand c × IsPlainAnswer answer
 IsPlain (Opened t ty first k) = (t < MOST_THREADS) × (first < MOST_PAGES) × (1 ≤ k) × (k ≤ MOST_PAGES)
-IsPlain (Collected t last passes) = ⊥
+IsPlain (Collected t last passes) = (t < MOST_THREADS) × (last ≤ OLDEST_COLLECTED) × All IsPlainRecord passes
 IsPlain (Ended t) = t < MOST_THREADS

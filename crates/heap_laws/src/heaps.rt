@@ -1,8 +1,20 @@
 //! Laws of the heaps that lawful histories leave.
 
-ghost use Rattle.heap_laws.specs.Laws.{HeapsAreWellFormed, HeapsAreSmall, NobodyCollects};
+ghost use Rattle.heap_laws.specs.Laws.{ValidAreLimited, EventsKeepHeaps, HeapsAreWellFormed, HeapsAreSmall, NobodyCollects};
 
-/// Every lawful history of a valid program leaves a well-formed heap: values refer to objects that
+/// A valid program is within the limits that the laws of heaps and histories ask for. These speak of
+/// all commands, those that are not built yet too.
+pub fn valid_programs_are_limited()
+    ensures { ValidAreLimited }
+{}
+
+/// Every event keeps a heap well-formed: each command of the table, each opening and commit, small
+/// or large, a collection, and the end of a thread.
+pub fn events_keep_heaps()
+    ensures { EventsKeepHeaps }
+{}
+
+/// Every lawful history leaves a well-formed heap: values refer to objects that
 /// are there, objects lie apart below the fills of their pages, and no two threads share a page.
 pub fn heaps_are_well_formed()
     ensures { HeapsAreWellFormed }

@@ -1,7 +1,7 @@
 -- How the words of a page are laid out: from its first word on, up to its fill, objects and pairs of filler words, one
 -- after another. What begins at an index is told by its word alone: a filler, a header, or a value, with which a cons
 -- begins. That a page is walked by its words is SBCL's; the words are this project's own. Left free is what stands in
--- an object behind its first word, and what stands behind the fill.
+-- an object behind its first word, which lengths of payload a kind has, and what stands behind the fill.
 use Rattle.std.specs.Prelude.{◌≡◌, ◌≢◌, ℕ, ◌+◌, ◌*◌, ◌/◌, ◌%◌, ◌<◌, ◌≤◌, ◌==◌, List, [], ◌∷◌, All, AllPairs, Contains, Option, Some, if◌then◌else◌, slice_index}
 use Rattle.heap_terms.specs.declared.kinds.Kind.{Kind}
 use Rattle.heap_terms.specs.declared.kinds.Kind.TheVariants as kinds

@@ -4,7 +4,7 @@ use Rattle.std.proofs.Math.ListN.{get_or-map}
 use Rattle.heap_terms.specs.declared.pages.Entry.{Entry}
 use Rattle.heap_terms.specs.Heap.{NamedHeap, Thread, thread_at, with_thread, ended_thread, fresh_thread}
 use Rattle.heap_laws.proofs.AtPlaces.{set_cases}
-use Rattle.lisp_heap.specs.Agreement.{Agrees, small_out, run_out}
+use Rattle.lisp_heap.specs.Agreement.{Agrees, small_out, run_out, run_type_of}
 use Rattle.lisp_heap.specs.ParcelView.{ParcelView}
 use Rattle.lisp_heap.specs.State.{state_of}
 use Rattle.lisp_heap.specs.declared.states.ThreadState.{ThreadState}
@@ -21,6 +21,8 @@ Agrees-same a b q pages state h = record {
       ∙ ap (λ (ps : List Entry). option_map (small_out ps) (thread_at b q.owner).unboxed_page) (sym pages);
   run = h.run ∙ ap (λ (s : ThreadState). option_map (run_out a.pages) s.open_run) (sym state)
       ∙ ap (λ (ps : List Entry). option_map (run_out ps) (thread_at b q.owner).open_run) (sym pages);
+  run_type = h.run_type ∙ ap (λ (s : ThreadState). run_type_of a.pages s.open_run) (sym state)
+      ∙ ap (λ (ps : List Entry). run_type_of ps (thread_at b q.owner).open_run) (sym pages);
 }
 
 -- where the lists of states are one, each thread's state is
@@ -40,6 +42,7 @@ Agrees-thread a t th q cons boxed unboxed run h = elim (set_cases a.threads t q.
     boxed = h.boxed ∙ ap (λ (x : Thread). option_map (small_out a.pages) x.boxed_page) (sym same);
     unboxed = h.unboxed ∙ ap (λ (x : Thread). option_map (small_out a.pages) x.unboxed_page) (sym same);
     run = h.run ∙ ap (λ (x : Thread). option_map (run_out a.pages) x.open_run) (sym same);
+    run_type = h.run_type ∙ ap (λ (x : Thread). run_type_of a.pages x.open_run) (sym same);
   }
   | inr changed ↦ (
       let own : thread_at (with_thread a t th) q.owner ≡ th = changed.2 in
@@ -53,5 +56,7 @@ Agrees-thread a t th q cons boxed unboxed run h = elim (set_cases a.threads t q.
             ∙ ap (option_map (small_out a.pages)) (sym unboxed) ∙ ap (λ (x : Thread). option_map (small_out a.pages) x.unboxed_page) (sym own);
         run = h.run ∙ ap (λ (x : Thread). option_map (run_out a.pages) x.open_run) (sym before)
             ∙ ap (option_map (run_out a.pages)) (sym run) ∙ ap (λ (x : Thread). option_map (run_out a.pages) x.open_run) (sym own);
+        run_type = h.run_type ∙ ap (λ (x : Thread). run_type_of a.pages x.open_run) (sym before)
+            ∙ ap (run_type_of a.pages) (sym run) ∙ ap (λ (x : Thread). run_type_of a.pages x.open_run) (sym own);
       })
 ]

@@ -11,7 +11,7 @@ use Rattle.heap_terms.specs.Heap.{NamedHeap, Thread, thread_at, with_thread, end
 use Rattle.heap_terms.specs.Histories.{IsNext, after, next}
 use Rattle.heap_terms.specs.Objects.{Object}
 use Rattle.heap_terms.specs.Spelling.{word_of}
-use Rattle.lisp_heap.specs.Agreement.{Agrees, small_out, run_out}
+use Rattle.lisp_heap.specs.Agreement.{Agrees, small_out, run_out, run_type_of}
 use Rattle.lisp_heap.specs.CellsView.{CellsView, spot, cleared, with_cleared}
 use Rattle.lisp_heap.specs.ParcelView.{ParcelView, empty_parcel}
 use Rattle.lisp_heap.specs.Parts.{Parts}
@@ -169,4 +169,5 @@ end_empty p a t ht =
       boxed = ap (λ (x : Thread). option_map (small_out a.pages) x.boxed_page) own;
       unboxed = ap (λ (x : Thread). option_map (small_out a.pages) x.unboxed_page) own;
       run = ap (λ (x : Thread). option_map (run_out a.pages) x.open_run) own;
+      run_type = ap (λ (x : Thread). run_type_of a.pages x.open_run) own;
     }

@@ -14,7 +14,7 @@ use Rattle.heap_laws.proofs.AtPlaces.{IsSome-value}
 use Rattle.heap_laws.proofs.Allocating.{has_page, place_small}
 use Rattle.lisp_heap.specs.Agreement.{Agrees, IsBuiltFor, Lends}
 use Rattle.lisp_heap.specs.ParcelView.{ParcelView, LeaseView, HasBuilt}
-use Rattle.lisp_heap.specs.Sound.{IsSound, view_of}
+use Rattle.lisp_heap.specs.WorldSound.{IsSound, view_of}
 use Rattle.lisp_heap.specs.View.{View, heap_of, next_of}
 use Rattle.lisp_heap.specs.declared.parcels.RegionPlace.{RegionPlace}
 use Rattle.lisp_heap.specs.declared.allocating.Lent.TheVariants as lents

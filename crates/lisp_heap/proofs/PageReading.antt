@@ -8,7 +8,7 @@ use Rattle.heap_terms.specs.Heap.{NamedHeap, thread_at, open_page, entry_at, fil
 use Rattle.heap_terms.specs.WellFormed.{IsOpenRun}
 use Rattle.heap_laws.proofs.SoundHeaps.{open_run_used}
 use Rattle.heap_laws.proofs.Allocating.{entry_fill}
-use Rattle.lisp_heap.specs.Sound.{IsSound, view_of}
+use Rattle.lisp_heap.specs.WorldSound.{IsSound, view_of}
 use Rattle.lisp_heap.specs.State.{state_of, state_page}
 use Rattle.lisp_heap.specs.View.{View, heap_of}
 use Rattle.lisp_heap.specs.declared.states.ThreadState.{ThreadState}

@@ -35,7 +35,7 @@ use Rattle.heap_terms.specs.OnPages.{BelongsTo}
 use Rattle.lisp_heap.specs.Agreement.{Agrees, small_out}
 use Rattle.lisp_heap.specs.CellsView.{with_cell_word, CellsView}
 use Rattle.lisp_heap.specs.ParcelView.{ParcelView, LeaseView, place_of, with_accepted, cons_accepted}
-use Rattle.lisp_heap.specs.Sound.{IsSound}
+use Rattle.lisp_heap.specs.WorldSound.{IsSound}
 use Rattle.lisp_heap.specs.Parts.{Parts}
 use Rattle.lisp_heap.specs.Standing.{Holds, CellsStand, LabelsStand}
 use Rattle.lisp_heap.specs.State.{state_of, advanced, fresh_state}
@@ -313,6 +313,7 @@ module _ (s : Inside) (h : IsSound s) (t : ℕ) (d x y : Cell) (index : ℕ) (lt
         boxed = beside.boxed;
         unboxed = beside.unboxed;
         run = beside.run;
+        run_type = beside.run_type;
       } in
       subst (λ (b : NamedHeap). Agrees b (with_accepted q)) (sym placed_after)
       (Agrees-thread celled t (record (thread_at celled t) { done = (thread_at celled t).done + 1 }) (with_accepted q) refl refl refl refl on_celled)

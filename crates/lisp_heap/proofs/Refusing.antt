@@ -14,7 +14,7 @@ use Rattle.heap_laws.proofs.NextEvents.{allocating_refused}
 use Rattle.heap_terms.specs.Regions.{HasNoRun, Wish, pages_needed, wish_of}
 use Rattle.lisp_heap.specs.Agreement.{Agrees}
 use Rattle.lisp_heap.specs.ParcelView.{ParcelView}
-use Rattle.lisp_heap.specs.Sound.{IsSound, parts_of}
+use Rattle.lisp_heap.specs.WorldSound.{IsSound, parts_of}
 use Rattle.lisp_heap.specs.Standing.{Holds}
 use Rattle.lisp_heap.specs.State.{state_of, advanced, fresh_state}
 use Rattle.lisp_heap.specs.declared.states.ThreadState.{ThreadState}

@@ -17,7 +17,7 @@ use Rattle.heap_laws.proofs.SoundHeaps.{open_page_used, open_run_used}
 use Rattle.heap_laws.proofs.Allocating.{run_length, run_entry, run_cases, HasSameEntries}
 use Rattle.lisp_heap.specs.Agreement.{Agrees, small_out}
 use Rattle.lisp_heap.specs.ParcelView.{ParcelView, with_cons}
-use Rattle.lisp_heap.specs.Sound.{IsSound, parts_of}
+use Rattle.lisp_heap.specs.WorldSound.{IsSound, parts_of}
 use Rattle.lisp_heap.specs.Standing.{Holds}
 use Rattle.lisp_heap.specs.State.{state_of, with_cons_open, fresh_state}
 use Rattle.lisp_heap.specs.declared.states.ThreadState.{ThreadState}
@@ -143,6 +143,7 @@ module _ (s : Inside) (h : IsSound s) (t : ℕ) (c : Command) (first : ℕ) (lt 
         boxed = beside.boxed;
         unboxed = beside.unboxed;
         run = beside.run;
+        run_type = beside.run_type;
       })
 
   pub opened_others : (q : ParcelView) → q.owner ≢ t → Agrees (heap s) q → Agrees (after s.program (heap s) (Opened t types.Cons first 1)) q

@@ -14,18 +14,13 @@ use Rattle.heap_terms.specs.Regions.{has_room, is_small, pages_needed, run_has_r
 use Rattle.heap_terms.specs.WellFormed.{IsWellFormed}
 use Rattle.heap_laws.proofs.Allocating.{has_page, has_run, needs_enough}
 use Rattle.lisp_heap.specs.declared.parcels.RegionPlace.{RegionPlace}
-use Rattle.lisp_heap.specs.declared.parcels.RunPlace.{RunPlace}
-use Rattle.lisp_heap.specs.Agreement.{Agrees, small_out, run_out, run_on}
-use Rattle.lisp_heap.specs.ParcelView.{ParcelView, LeaseView, place_of, run_place_of, small_region, room_of, Fits, HasRoom}
+use Rattle.lisp_heap.specs.Agreement.{Agrees, small_out, run_out, run_pages_of, run_type_of, type_of}
+use Rattle.lisp_heap.specs.ParcelView.{ParcelView, LeaseView, place_of, small_region, room_of, Fits, HasRoom}
 
 -- a region of a parcel that agrees
 pub some_place : (o : Option LeaseView) (x : RegionPlace) → option_map place_of o ≡ Some x → (r : LeaseView) × (o ≡ Some r) × (place_of r ≡ x)
 some_place None x e = cc
 some_place (Some r) x e = (r, refl, cc)
-
-some_run : (o : Option LeaseView) (x : RunPlace) → option_map (λ r. Some (run_place_of r)) o ≡ Some (Some x) → (r : LeaseView) × (o ≡ Some r) × (run_place_of r ≡ x)
-some_run None x e = cc
-some_run (Some r) x e = (r, refl, cc)
 
 small_agrees : (a : NamedHeap) (q : ParcelView) (ty : PageType) → Agrees a q →
     option_map place_of (small_region q ty) ≡ option_map (small_out a.pages) (open_page (thread_at a q.owner) ty)
@@ -44,14 +39,14 @@ small_fits kind n page fill r small place room =
     (enough, (λ large. absurd (false≢true (sym large ∙ small))))
 
 -- a run has room for the object for which it was opened
-run_fits : (kind : Kind) (n page : ℕ) (r : LeaseView) → is_small (size_of kind n) ≡ false →
-    run_place_of r ≡ record { ty = page_type_of kind; first = page; pages = pages_needed (size_of kind n); next = page_words * page } → Fits kind n r
-run_fits kind n page r large place =
-    let first : r.first ≡ page = ap (λ (x : RunPlace). x.first) place in
-    let pages : r.pages ≡ pages_needed (size_of kind n) = ap (λ (x : RunPlace). x.pages) place in
-    let next_is : r.next ≡ page_words * page = ap (λ (x : RunPlace). x.next) place in
+run_fits : (kind : Kind) (n page : ℕ) (r : LeaseView) → is_small (size_of kind n) ≡ false → r.ty ≡ page_type_of kind →
+    place_of r ≡ record { first = page; pages = pages_needed (size_of kind n); next = page_words * page } → Fits kind n r
+run_fits kind n page r large type place =
+    let first : r.first ≡ page = ap (λ (x : RegionPlace). x.first) place in
+    let pages : r.pages ≡ pages_needed (size_of kind n) = ap (λ (x : RegionPlace). x.pages) place in
+    let next_is : r.next ≡ page_words * page = ap (λ (x : RegionPlace). x.next) place in
     let most : size_of kind n ≤ page_words * pages_needed (size_of kind n) = needs_enough (size_of kind n) large in
-    (run_room (size_of kind n) (pages_needed (size_of kind n)) page r first pages next_is most, (λ _. ap (λ (x : RunPlace). x.ty) place))
+    (run_room (size_of kind n) (pages_needed (size_of kind n)) page r first pages next_is most, (λ _. type))
   where
     run_room : (size k page : ℕ) (r : LeaseView) → r.first ≡ page → r.pages ≡ k → r.next ≡ page_words * page → size ≤ page_words * k → size ≤ room_of r
     run_room size k page r first pages next_is most = omega arith
@@ -74,12 +69,20 @@ has_room_in p a q kind n wf agrees room = elim (cases_Bool (is_small (size_of ki
       let in_run : run_has_room a.pages (thread_at a q.owner).open_run (page_type_of kind) (size_of kind n) ≡ true = rw large at room in
       let run = has_run p a q.owner (page_type_of kind) (size_of kind n) wf in_run in
       let entry = first_entry run.first (pages_needed (size_of kind n)) run.long run.each in
-      let region = some_run q.run (record { ty = page_type_of kind; first = run.first; pages = pages_needed (size_of kind n); next = page_words * run.first })
-      (agrees.run ∙ ap (option_map (run_out a.pages)) run.open_is ∙ ap (λ (e : Entry). Some (run_on e run.first)) entry) in
+      let region = some_place q.run (record { first = run.first; pages = pages_needed (size_of kind n); next = page_words * run.first })
+      (agrees.run ∙ ap (option_map (run_out a.pages)) run.open_is
+      ∙ ap (λ (e : Entry). Some (record { first = run.first; pages = run_pages_of e; next = page_words * run.first })) entry) in
+      let types_agree : option_map (λ (r : LeaseView). r.ty) q.run ≡ Some (page_type_of kind) =
+      agrees.run_type ∙ ap (run_type_of a.pages) run.open_is ∙ ap type_of entry in
+      let type : (region.0).ty ≡ page_type_of kind =
+      type_is (sym (ap (option_map (λ (r : LeaseView). r.ty)) region.1) ∙ types_agree) in
       subst (λ (b : Bool). IsSomeAnd (if b then small_region q (page_type_of kind) else q.run) (Fits kind n)) (sym large)
-      (fits_in kind n q.run (region.0) region.1 (run_fits kind n run.first (region.0) large region.2)))
+      (fits_in kind n q.run (region.0) region.1 (run_fits kind n run.first (region.0) large type region.2)))
 ]
   where
+    type_is : {x y : PageType} → Some x ≡ Some y → x ≡ y
+    type_is e = cc
+
     first_entry : (first k : ℕ) → 2 ≤ k → ((i : ℕ) → i < k → entry_at a.pages (first + i) ≡ entries.Used (page_type_of kind) 0 0 first k) →
         entry_at a.pages first ≡ entries.Used (page_type_of kind) 0 0 first k
     first_entry first k long each =

@@ -9,7 +9,7 @@ use Rattle.heap_terms.specs.WellFormed.{IsWellFormed, HoldsLiving}
 use Rattle.heap_laws.proofs.AtPlaces.{IfSome-at}
 use Rattle.heap_laws.proofs.SoundHeaps.{IsCons, only_conses, cons_contents, replay-well_formed}
 use Rattle.lisp_heap.specs.CellsView.{HasCells}
-use Rattle.lisp_heap.specs.Sound.{IsSound}
+use Rattle.lisp_heap.specs.WorldSound.{IsSound}
 use Rattle.lisp_heap.specs.State.{state_of}
 use Rattle.lisp_heap.specs.declared.world.World.TheInside.{Inside}
 use Rattle.lisp_heap.proofs.CommitLemmas.{HoldLiving}

@@ -14,7 +14,7 @@ use Rattle.heap_terms.specs.Valid.{IsValid}
 use Rattle.heap_terms.specs.Spelling.{word_of}
 use Rattle.heap_laws.proofs.SoundHeaps.{start_thread_is, start_free}
 use Rattle.lisp_heap.specs.CellsView.{spot, zero_cells}
-use Rattle.lisp_heap.specs.Sound.{IsSound, parts_of}
+use Rattle.lisp_heap.specs.WorldSound.{IsSound, parts_of}
 use Rattle.lisp_heap.specs.Parts.{page_labels, fresh_parts}
 use Rattle.lisp_heap.specs.Standing.{CellsStand, LabelsStand, Holds}
 use Rattle.lisp_heap.specs.State.{state_of, fresh_state}

@@ -22,7 +22,7 @@ use Rattle.lisp_heap.specs.Agreement.{Agrees}
 use Rattle.lisp_heap.specs.Events.{Happens}
 use Rattle.lisp_heap.specs.Plan.{IsPlan, Makes, CanChange}
 use Rattle.lisp_heap.specs.ParcelView.{ParcelView}
-use Rattle.lisp_heap.specs.Sound.{IsSound, view_of, parts_of}
+use Rattle.lisp_heap.specs.WorldSound.{IsSound, view_of, parts_of}
 use Rattle.lisp_heap.specs.Parts.{Parts}
 use Rattle.lisp_heap.specs.Standing.{Holds}
 use Rattle.lisp_heap.specs.State.{state_of, advanced, fresh_state}

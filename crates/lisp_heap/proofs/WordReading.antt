@@ -28,7 +28,7 @@ use Rattle.lisp_words.specs.declared.pointers.Lowtag.{Lowtag}
 use Rattle.lisp_words.specs.declared.pointers.Lowtag.TheVariants as lowtags
 use Rattle.lisp_heap.specs.CellsView.{cell_word}
 use Rattle.lisp_heap.specs.LivingWords.{IsWord, RefersToCons}
-use Rattle.lisp_heap.specs.Sound.{IsSound, view_of}
+use Rattle.lisp_heap.specs.WorldSound.{IsSound, view_of}
 use Rattle.lisp_heap.specs.State.{state_of}
 use Rattle.lisp_heap.specs.View.{View, heap_of}
 use Rattle.lisp_heap.specs.declared.states.ThreadState.{ThreadState}

@@ -1,5 +1,6 @@
 -- When a parcel has just the regions that are out for its owner.
-use Rattle.std.specs.Prelude.{◌≡◌, ◌≢◌, ℕ, ◌+◌, ◌*◌, ◌<◌, Option, Some, None, option_map, List, length, slice_index_or}
+use Rattle.std.specs.Prelude.{◌≡◌, ◌≢◌, ℕ, ◌+◌, ◌*◌, ◌<◌, option_map, option_and_then, Option, Some, None, List, length, slice_index_or}
+use Rattle.heap_terms.specs.declared.kinds.PageType.{PageType}
 use Rattle.heap_terms.specs.declared.pages.Entry.{Entry}
 use Rattle.heap_terms.specs.declared.pages.Entry.TheVariants.{Free, Used}
 use Rattle.heap_terms.specs.declared.pages.Next.{Next}
@@ -10,31 +11,40 @@ use Rattle.heap_terms.specs.Histories.{command_at, wish_at, wished_size}
 use Rattle.heap_terms.specs.Regions.{IsFreeRun, IsLowestRun, pages_needed}
 use Rattle.lisp_heap.specs.declared.allocating.Lent.{Lent}
 use Rattle.lisp_heap.specs.declared.allocating.Lent.TheVariants as lents
-use Rattle.lisp_heap.specs.ParcelView.{ParcelView, empty_parcel, place_of, run_place_of, with_cons, HasRoom, HasBuilt, IsMaking}
+use Rattle.lisp_heap.specs.ParcelView.{ParcelView, empty_parcel, place_of, with_cons, HasRoom, HasBuilt, IsMaking}
 use Rattle.lisp_heap.specs.View.{View, heap_of}
 use Rattle.lisp_heap.specs.declared.parcels.RegionPlace.{RegionPlace}
-use Rattle.lisp_heap.specs.declared.parcels.RunPlace.{RunPlace}
+
+-- how many pages the run of a page has
+abbrev pub run_pages_of : Entry → ℕ
+run_pages_of Free = 0
+run_pages_of (Used ty g fill first pages) = pages
 
 -- the small region on an open page: its first page, its one page, and where its next object begins
 abbrev pub small_out : List Entry → ℕ → RegionPlace
 small_out pages page = record { first = page; pages = 1; next = page_words * page + fill_of (entry_at pages page) }
 
--- the run that begins on a page with that entry and holds nothing yet; on a free page there is none
-abbrev pub run_on : Entry → ℕ → Option RunPlace
-run_on Free page = None
-run_on (Used ty g fill first pages) page = Some (record { ty = ty; first = page; pages = pages; next = page_words * page })
-
 -- an open run, which holds nothing yet
-abbrev pub run_out : List Entry → ℕ → Option RunPlace
-run_out pages first = run_on (entry_at pages first) first
+abbrev pub run_out : List Entry → ℕ → RegionPlace
+run_out pages first = record { first = first; pages = run_pages_of (entry_at pages first); next = page_words * first }
 
--- A parcel has just the regions that are out for its owner, at the places to which they are filled; its run has the
--- type of the run's pages. (Each small region of a parcel has the type of its field.)
+-- the type of a page in use
+abbrev pub type_of : Entry → Option PageType
+type_of Free = None
+type_of (Used ty g fill first pages) = Some ty
+
+-- the type of the pages of an open run
+abbrev pub run_type_of : List Entry → Option ℕ → Option PageType
+run_type_of pages run = option_and_then (λ first. type_of (entry_at pages first)) run
+
+-- A parcel has just the regions that are out for its owner, at the places to which they are filled; its run is of the
+-- type of the pages of the run that is out.
 pub record Agrees (a : NamedHeap) (q : ParcelView) : Type 0 where
   pub cons : option_map place_of q.cons ≡ option_map (small_out a.pages) (thread_at a q.owner).cons_page
   pub boxed : option_map place_of q.boxed ≡ option_map (small_out a.pages) (thread_at a q.owner).boxed_page
   pub unboxed : option_map place_of q.unboxed ≡ option_map (small_out a.pages) (thread_at a q.owner).unboxed_page
-  pub run : option_map (λ r. Some (run_place_of r)) q.run ≡ option_map (run_out a.pages) (thread_at a q.owner).open_run
+  pub run : option_map place_of q.run ≡ option_map (run_out a.pages) (thread_at a q.owner).open_run
+  pub run_type : option_map (λ r. r.ty) q.run ≡ run_type_of a.pages (thread_at a q.owner).open_run
 
 -- every parcel of another owner that agreed before an event still agrees after it
 abbrev pub OthersAgree : NamedHeap → NamedHeap → ℕ → Type 0

@@ -6,7 +6,7 @@ pub mod ParcelView
 pub mod Agreement
 pub mod Events
 pub mod Standing
-pub mod Sound
+pub mod WorldSound
 pub mod Plan
 pub mod Wishes
 pub mod LivingWords

@@ -8,7 +8,6 @@ use Rattle.heap_terms.specs.Layout.{page_words, page_type_of, size_of}
 use Rattle.heap_terms.specs.Regions.{is_small}
 use Rattle.lisp_heap.specs.declared.parcels.Making.{Making}
 use Rattle.lisp_heap.specs.declared.parcels.RegionPlace.{RegionPlace}
-use Rattle.lisp_heap.specs.declared.parcels.RunPlace.{RunPlace}
 
 -- a region: the type of its pages, its first page, its pages, the index at which its next object begins, and what
 -- is built there and not committed
@@ -70,10 +69,6 @@ HasBuilt q kind n seed = IsSomeAnd (region_for q kind n) (λ r. r.built ≡ Some
 -- a region without what is built there
 abbrev pub place_of : LeaseView → RegionPlace
 place_of r = record { first = r.first; pages = r.pages; next = r.next }
-
--- a run without what is built there
-abbrev pub run_place_of : LeaseView → RunPlace
-run_place_of r = record { ty = r.ty; first = r.first; pages = r.pages; next = r.next }
 
 -- the number of regions in a parcel
 abbrev pub one_if : Option LeaseView → ℕ

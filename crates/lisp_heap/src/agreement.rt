@@ -1,17 +1,17 @@
 //! Whether a parcel agrees with a World.
 
-ghost use Rattle.std.specs.Prelude.{◌≡◌, ◌↔◌, ◌≤◌, ◌<◌, Some, length, option_map, IsTrue};
+ghost use Rattle.std.specs.Prelude.{◌≡◌, ◌↔◌, ◌≤◌, ◌<◌, length, option_map, IsTrue};
 ghost use Rattle.std.specs.Option.{ForSome};
 ghost use Rattle.heap_terms.specs.declared.kinds.PageType.{PageType};
 ghost use Rattle.heap_terms.specs.declared.limits.TheConstants.{MOST_PAGES};
 ghost use Rattle.heap_terms.specs.Heap.{entry_at, fill_of, thread_at};
 ghost use Rattle.heap_terms.specs.Layout.{page_words};
-ghost use Rattle.lisp_heap.specs.Agreement.{Agrees, run_out, small_out};
-ghost use Rattle.lisp_heap.specs.ParcelView.{place_of, run_place_of, small_region};
+ghost use Rattle.lisp_heap.specs.Agreement.{Agrees, run_out, run_pages_of, run_type_of, small_out};
+ghost use Rattle.lisp_heap.specs.ParcelView.{place_of, small_region};
 ghost use Rattle.lisp_heap.specs.State.{state_of, state_page};
 ghost use Rattle.lisp_heap.specs.View.{heap_of};
 
-use crate::parcels::{Parcel, RegionPlace, RunPlace};
+use crate::parcels::{Parcel, RegionPlace};
 use crate::states::ThreadState;
 use crate::world::World;
 use heap_terms::{Entry, Owned, PAGE_WORDS, PageType};
@@ -27,6 +27,7 @@ impl World {
             && self.small_agrees(parcel, state, PageType::Boxed)
             && self.small_agrees(parcel, state, PageType::Unboxed)
             && self.run_agrees(parcel, state)
+            && parcel.run_type() == self.run_type(state)
     }
 
     /// The state of a thread. A number that no thread has stands for a thread that has ended.
@@ -60,15 +61,31 @@ impl World {
         }
     }
 
-    /// Whether the parcel's run is the open run of a state and was opened for the type of its pages.
+    /// Whether the parcel's run is the open run of a state.
     fn run_agrees(&self, parcel: &Parcel, state: ThreadState) -> bool
         requires { ForSome state.open_run (λ page. page < length (heap_of self.now).pages) }
-        ensures { IsTrue result ↔ (option_map (λ r. Some (run_place_of r)) parcel.now.run ≡ option_map (run_out (heap_of self.now).pages) state.open_run) }
+        ensures { IsTrue result ↔ (option_map place_of parcel.now.run ≡ option_map (run_out (heap_of self.now).pages) state.open_run) }
     {
         match (parcel.run_place(), state.open_run) {
             (None, None) => true,
-            (Some(run), Some(first)) => self.run_place(first) == Some(run),
+            (Some(RegionPlace { first, pages, next }), Some(page)) => {
+                first == page && pages == self.run_pages(page) && next == PAGE_WORDS * page
+            }
             _ => false,
+        }
+    }
+
+    /// The type of the pages of a state's open run.
+    fn run_type(&self, state: ThreadState) -> Option<PageType>
+        requires { ForSome state.open_run (λ page. page < length (heap_of self.now).pages) }
+        ensures { result ≡ run_type_of (heap_of self.now).pages state.open_run }
+    {
+        match state.open_run {
+            None => None,
+            Some(page) => match self.pages.entry(page) {
+                Entry::Free => None,
+                Entry::Used { ty, .. } => Some(ty),
+            },
         }
     }
 
@@ -85,19 +102,15 @@ impl World {
         }
     }
 
-    /// The run that begins on a page and holds nothing yet. On a free page there is none.
-    fn run_place(&self, first: u32) -> Option<RunPlace>
-        requires { first < length (heap_of self.now).pages }
-        ensures { result ≡ run_out (heap_of self.now).pages first }
+    /// How many pages the run of a page has.
+    fn run_pages(&self, page: u32) -> u32
+        requires { page < length (heap_of self.now).pages }
+        ensures value { result ≡ run_pages_of (entry_at (heap_of self.now).pages page) }
+        ensures page { page < MOST_PAGES }
     {
-        match self.pages.entry(first) {
-            Entry::Free => None,
-            Entry::Used { ty, run_pages, .. } => Some(RunPlace {
-                ty,
-                first,
-                pages: run_pages,
-                next: PAGE_WORDS * first,
-            }),
+        match self.pages.entry(page) {
+            Entry::Free => 0,
+            Entry::Used { run_pages, .. } => run_pages,
         }
     }
 }

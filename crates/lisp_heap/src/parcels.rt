@@ -8,7 +8,7 @@ ghost use Rattle.heap_terms.specs.declared.kinds.PageType.TheVariants as types;
 ghost use Rattle.heap_terms.specs.Layout.{page_type_of, page_words, size_of};
 ghost use Rattle.heap_terms.specs.Regions.{is_small};
 ghost use Rattle.lisp_heap.specs.Leases.{lease_view, IsLease, IsSmallLease};
-ghost use Rattle.lisp_heap.specs.ParcelView.{Fits, HasRoom, HasBuilt, IsMaking, LeaseView, empty_parcel, one_if, place_of, region_built, regions_in, run_place_of, small_region, with_accepted, with_built, with_cons};
+ghost use Rattle.lisp_heap.specs.ParcelView.{Fits, HasRoom, HasBuilt, IsMaking, LeaseView, empty_parcel, one_if, place_of, region_built, regions_in, small_region, with_accepted, with_built, with_cons};
 
 use alloc_region::Region;
 use heap_terms::{Kind, Owned, PAGE_WORDS, PageType};
@@ -34,19 +34,6 @@ pub(crate) struct RegionPlace {
     /// How many pages it has.
     pub pages: u32,
     /// The index in words at which its next object begins.
-    pub next: u32,
-}
-
-/// A run that is out: where it lies, and for which type of objects it was opened.
-#[derive(Clone, Copy, PartialEq, Eq)]
-pub(crate) struct RunPlace {
-    /// The type of its pages.
-    pub ty: PageType,
-    /// Its first page.
-    pub first: u32,
-    /// How many pages it has.
-    pub pages: u32,
-    /// The index in words at which its object begins.
     pub next: u32,
 }
 
@@ -224,18 +211,20 @@ impl Parcel {
         }
     }
 
-    /// The type and the place of the run.
-    pub(crate) fn run_place(&self) -> Option<RunPlace>
-        ensures { result ≡ option_map run_place_of self.now.run }
+    /// The place of the run.
+    pub(crate) fn run_place(&self) -> Option<RegionPlace>
+        ensures { result ≡ option_map place_of self.now.run }
+    {
+        place(&self.run)
+    }
+
+    /// The type of the pages of the run.
+    pub(crate) fn run_type(&self) -> Option<PageType>
+        ensures { result ≡ option_map (λ r. r.ty) self.now.run }
     {
         match &self.run {
             None => None,
-            Some(lease) => Some(RunPlace {
-                ty: lease.region.page_type(),
-                first: lease.region.first(),
-                pages: lease.region.pages(),
-                next: lease.region.next(),
-            }),
+            Some(lease) => Some(lease.region.page_type()),
         }
     }
 

@@ -47,7 +47,7 @@ impl Model for World {
 
     ghost Value = { View };
 
-    ghost use Rattle.lisp_heap.specs.Sound.{view_of, IsSound};
+    ghost use Rattle.lisp_heap.specs.WorldSound.{view_of, IsSound};
 
     ghost view = { view_of };
 

@@ -6,3 +6,4 @@ pub mod FirstWords
 pub mod Places
 pub mod HeapWalks
 pub mod Tested
+pub mod InOrder

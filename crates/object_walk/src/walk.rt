@@ -113,6 +113,7 @@ fn first_object(space: &Space, from: u32, end: u32) -> Option<Found>
         if word != FILLER_WORD {
             return Some(object_at(index, word));
         }
+        // Fillers come in pairs.
         index += 2;
     }
     None

@@ -53,7 +53,7 @@ ready_after old new ps t q ready inside program owner agrees others =
 empty_agrees : (p : Program) (t : ℕ) → Agrees (start p) (empty_parcel t)
 empty_agrees p t =
     let s = start_thread p t in
-    record { cons = rw s.2 refl; boxed = rw s.2 refl; unboxed = rw s.2 refl; run = rw s.2 refl }
+    record { cons = rw s.2 refl; boxed = rw s.2 refl; unboxed = rw s.2 refl; run = rw s.2 refl; run_type = rw s.2 refl }
 
 -- the parcels of a new World
 pub fresh_ready : (w : View) (ps : List ParcelView) → w.history ≡ [] → AreFresh ps (length w.program.threads) → AreReady w ps

@@ -7,7 +7,7 @@ use Rattle.heap_terms.specs.declared.faults.LimitKind.TheVariants as limits
 use Rattle.heap_terms.specs.Fields.{◌>>=◌}
 use Rattle.heap_terms.specs.Grammar.{Turns, schedule_of, turns_of_all}
 use Rattle.heap_terms.specs.ScriptReading.{SoFar, Bad, Over, InSchedule, within_limits}
-use Rattle.script_text.specs.Answers.{turns_behind}
+use Rattle.script_text.specs.ReaderAnswers.{turns_behind}
 
 -- a schedule without fields
 pub schedule_empty : (s : SoFar) (threads : ℕ) (fs : List (List ℕ)) → length fs ≡ 0 → within_limits s (schedule_of threads fs) ≡ Err (Bad Fields)

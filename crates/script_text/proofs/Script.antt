@@ -6,7 +6,7 @@ use Rattle.heap_terms.specs.Fields.{fields_in}
 use Rattle.heap_terms.specs.ScriptReading.{SoFar, Refused, Bad, Over, Fault, fault_at, judged, read_lines, finished}
 use Rattle.script_text.specs.declared.faults.LineFault.{LineFault}
 use Rattle.script_text.specs.declared.faults.LineFault.TheVariants as faults
-use Rattle.script_text.specs.Answers.{IsRefused}
+use Rattle.script_text.specs.ReaderAnswers.{IsRefused}
 use Rattle.script_text.specs.Gives.{Fails}
 use Rattle.script_text.specs.Numbers.{fault_of_line}
 use Rattle.script_text.specs.Left.{first_or_empty, all_but_first, fields_left, lines_after}

@@ -8,7 +8,7 @@ use Rattle.heap_terms.specs.Fields.{◌>>=◌, number_of, ranged, between, at_le
 use Rattle.heap_terms.specs.Grammar.{FieldForm, Number, Meaning, Statement, Version, HeapOf, NewThread, EndOfScript, schedule_of, row, meaning_of, said_by, rows, statement_of}
 use Rattle.script_text.specs.declared.words.Keyword.{Keyword}
 use Rattle.script_text.specs.declared.words.Keyword.TheVariants as keywords
-use Rattle.script_text.specs.Answers.{only_field}
+use Rattle.script_text.specs.ReaderAnswers.{only_field}
 use Rattle.script_text.specs.Words.{text_of}
 use Rattle.script_text.specs.Values.{pages_of}
 

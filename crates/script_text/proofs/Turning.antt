@@ -5,7 +5,7 @@ use Rattle.heap_terms.specs.declared.faults.Why.{Why}
 use Rattle.heap_terms.specs.Fields.{◌>>=◌, turns_of}
 use Rattle.heap_terms.specs.Grammar.{turns_of_all}
 use Rattle.script_text.specs.declared.turns.Turns.{Turns}
-use Rattle.script_text.specs.Answers.{turns_behind}
+use Rattle.script_text.specs.ReaderAnswers.{turns_behind}
 use Rattle.script_text.specs.Left.{fields_left, Taken, NoneLeft}
 use Rattle.script_text.specs.Values.{one_by_one}
 

@@ -3,6 +3,6 @@ pub mod Words
 pub mod Values
 pub mod Left
 pub mod Commands
-pub mod Answers
+pub mod ReaderAnswers
 pub mod Reader
 pub mod Numbers

@@ -4,7 +4,7 @@ ghost use Rattle.std.specs.Prelude.{ℕ, List, ◌≡◌, ◌↔◌, ◌<◌, �
 ghost use Rattle.std.specs.Str.Lines.{lines};
 ghost use Rattle.heap_terms.specs.Fields.{turns_of};
 ghost use Rattle.heap_terms.specs.declared.faults.Why.TheVariants.{Fields};
-ghost use Rattle.script_text.specs.Answers.{only_field};
+ghost use Rattle.script_text.specs.ReaderAnswers.{only_field};
 ghost use Rattle.script_text.specs.Commands.{Moved, but_first, in_first, a_cell, an_index, a_fixnum, SaysCommand};
 ghost use Rattle.script_text.specs.Left.{Taken, NoneLeft, fields_left, lines_after};
 ghost use Rattle.script_text.specs.Values.{one_by_one};

@@ -5,7 +5,7 @@ ghost use Rattle.heap_terms.specs.Grammar.{Version, HeapOf, NewThread, Does, End
 ghost use Rattle.heap_terms.specs.ScriptReading.{within_limits, judged, judged_word, nothing_read, onto_last, finished, LineFault as MadeAt};
 ghost use Rattle.heap_terms.specs.declared.faults.Why.TheVariants.{Missing};
 ghost use Rattle.heap_terms.specs.Valid.{is_gc};
-ghost use Rattle.script_text.specs.Answers.{IsJudged};
+ghost use Rattle.script_text.specs.ReaderAnswers.{IsJudged};
 ghost use Rattle.script_text.specs.Left.{fields_left, lines_after};
 ghost use Rattle.script_text.specs.Words.{text_of};
 

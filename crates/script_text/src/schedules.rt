@@ -2,7 +2,7 @@
 
 ghost use Rattle.std.specs.Prelude.{◌≡◌, ◌≤◌, ◌+◌, ◌++◌, OnOk, OnErr, IfOk, IfErr, length, replicate, ℕ, List, Ok, Err};
 ghost use Rattle.heap_terms.specs.Grammar.{turns_of_all};
-ghost use Rattle.script_text.specs.Answers.{turns_behind, AddsTurns};
+ghost use Rattle.script_text.specs.ReaderAnswers.{turns_behind, AddsTurns};
 ghost use Rattle.script_text.specs.Left.{fields_left, lines_after};
 
 use crate::cursor::Cursor;

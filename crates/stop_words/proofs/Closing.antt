@@ -8,7 +8,7 @@ use Rattle.stop_words.specs.declared.view.Place.{Place}
 use Rattle.stop_words.specs.declared.view.Place.TheVariants.{Parked, Outside, Inside, Holding}
 use Rattle.stop_words.specs.Places.{word_of, is_in, is_home}
 use Rattle.stop_words.specs.Rule.{LiesAt, StopRule}
-use Rattle.stop_words.specs.Slots.{parcels_in, ClosesWith}
+use Rattle.stop_words.specs.ParcelSlots.{parcels_in, ClosesWith}
 use Rattle.stop_words.proofs.Basics.{true_not_false}
 
 parcels_cons : {P : Type 0} (x : Option P) (xs : List (Option P)) → parcels_in (x ∷ xs) ≡ option_to_list x ++ parcels_in xs

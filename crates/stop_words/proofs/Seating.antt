@@ -7,7 +7,7 @@ use Rattle.stop_words.specs.declared.seats.StopWords.{StopWords}
 use Rattle.atomic_table.specs.Table.{opening}
 use Rattle.stop_words.specs.Owners.{ByOwner}
 use Rattle.stop_words.specs.Rule.{StopRule, first_view}
-use Rattle.stop_words.specs.Slots.{parcels_in}
+use Rattle.stop_words.specs.ParcelSlots.{parcels_in}
 use Rattle.stop_words.proofs.Start.{begins}
 use Rattle.stop_words.specs.Seats.{Fresh, AllFresh, OthersFresh}
 

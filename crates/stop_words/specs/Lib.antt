@@ -6,7 +6,7 @@ pub mod Rule
 pub mod Plays
 pub mod Seats
 pub mod Replies
-pub mod Slots
+pub mod ParcelSlots
 pub mod Gathers
 pub mod Looks
 pub mod Lending

@@ -1,7 +1,7 @@
 //! Making the stop words, and taking the parcels out at the end.
 ghost use Rattle.std.specs.Prelude.{◌≡◌, ◌+◌, ◌<◌, ◌≤◌, ◌^◌, [], ◌∷◌, ◌++◌, map, option_to_list, replicate, vec_len, vec_capacity, Some, IfOk, IfErr};
 ghost use Rattle.stop_words.specs.Owners.{ByOwner};
-ghost use Rattle.stop_words.specs.Slots.{parcels_in, ClosesWith};
+ghost use Rattle.stop_words.specs.ParcelSlots.{parcels_in, ClosesWith};
 
 use crate::rule::NextSeat;
 use crate::seats::{StopSeat, StopWords};

@@ -20,14 +20,15 @@ use Rattle.heap_terms.specs.Layout.{page_words, page_type_of, size_of}
 use Rattle.heap_terms.specs.Objects.{Object, words_of_object}
 use Rattle.heap_terms.specs.Outcomes.{outcome_of}
 use Rattle.heap_terms.specs.Regions.{Wish, Nothing, Make, wish_of, is_small, has_room, page_has_room, run_has_room, opened, committed, pages_after, with_large, IsFreeRun}
-use Rattle.heap_terms.specs.Valid.{IsValid}
+use Rattle.heap_laws.specs.Limited.{IsLimited}
 use Rattle.heap_terms.specs.WellFormed.{IsWellFormed, IsOpenRun, IsOpenRunPage}
 use Rattle.heap_laws.proofs.Events.Causes.{Builds, by_events}
 use Rattle.heap_laws.proofs.Events.OwnThread.{built_heap}
 use Rattle.heap_laws.proofs.WellFormed.RegionOpened.{run_cases, open_run_taken, thread_with_run}
 use Rattle.heap_laws.proofs.WellFormed.Committed.{HasPage, has_page, pages_small, large_run, goes_into, pages_large, new_object, initial_kind, initial_payload}
 use Rattle.heap_laws.proofs.WellFormed.LargeAdded.{GoesInto, open_page_same, open_run_same}
-use Rattle.heap_laws.proofs.Programs.BuiltCommands.{script_thread, script_command}
+use Rattle.heap_laws.proofs.Programs.Limits.{script_in_range}
+use Rattle.heap_laws.proofs.Programs.BuiltCommands.{script_thread}
 use Rattle.heap_laws.proofs.Events.Tasks.{IsSameTask, same_task, outcome-board, advance_others}
 use Rattle.heap_laws.proofs.WellFormed.Threads.{open_page_used, open_run_used, other_thread}
 
@@ -165,12 +166,12 @@ unfolding opened
 opened_task a t ty first k u other = rw (other_thread a t u (thread_with_run (thread_at a t) ty first k) other) (same_task (thread_at a u))
 
 -- every event but a collection leaves the other threads' tasks and the entries of their regions
-pub others_left : (p : Program) (a : NamedHeap) (e : Event) → IsValid p → IsWellFormed p a → IsNext p a e → is_collection e ≡ false → (u : ℕ) → u ≢ thread_of e →
+pub others_left : (p : Program) (a : NamedHeap) (e : Event) → IsLimited p → IsWellFormed p a → IsNext p a e → is_collection e ≡ false → (u : ℕ) → u ≢ thread_of e →
     IsLeft a (after p a e) u
-others_left p a e valid w next = by_events p a (λ e b. is_collection e ≡ false → (u : ℕ) → u ≢ thread_of e → IsLeft a b u)
+others_left p a e limits w next = by_events p a (λ e b. is_collection e ≡ false → (u : ℕ) → u ≢ thread_of e → IsLeft a b u)
     (λ t c answer d calm u other.
-    let in_range = (script_command p t (thread_at a t).done c valid d.command).in_range in
-    let board = outcome-board p a t c w valid.pages_most (script_thread p t (thread_at a t).done c d.command) d.alive in_range in
+    let in_range = script_in_range p t (thread_at a t).done c limits d.command in
+    let board = outcome-board p a t c w limits.pages_most (script_thread p t (thread_at a t).done c d.command) d.alive in_range in
     record {
       task = subst (λ (th : Thread). IsSameTask (thread_at a u) th) (sym (advance_others (outcome_of a t c).heap t u other)) (board.others u other);
       entries = same_pages_entries a (advance (outcome_of a t c).heap t) u board.pages;

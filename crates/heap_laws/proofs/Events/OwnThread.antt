@@ -22,13 +22,15 @@ use Rattle.heap_laws.specs.Order.{is_end}
 use Rattle.heap_laws.specs.Remaining.{owes, triggers_left}
 use Rattle.heap_terms.specs.Outcomes.{outcome_of}
 use Rattle.heap_terms.specs.Regions.{is_small, committed, opened, counting, destination_of, with_destination, place_for, pages_after, run_used}
-use Rattle.heap_terms.specs.Valid.{IsValid, is_gc}
+use Rattle.heap_terms.specs.Valid.{is_gc}
+use Rattle.heap_laws.specs.Limited.{IsLimited}
 use Rattle.heap_terms.specs.WellFormed.{IsWellFormed}
 use Rattle.heap_laws.proofs.Events.Causes.{Collects, by_events, alive_thread}
 use Rattle.heap_laws.proofs.Events.CollectedThreads.{collected_threads}
 use Rattle.heap_laws.proofs.Events.Counted.{owes_most, counts}
 use Rattle.heap_laws.proofs.Events.Tasks.{IsSameTask, IsSameBoard, IsOwnChange, same_task, task_then, same_board, with_cell-board, with_cell-objects, outcome-board, advanced_thread, advance_others}
-use Rattle.heap_laws.proofs.Programs.BuiltCommands.{script_place, script_thread, script_command}
+use Rattle.heap_laws.proofs.Programs.Limits.{script_in_range}
+use Rattle.heap_laws.proofs.Programs.BuiltCommands.{script_place, script_thread}
 use Rattle.heap_laws.proofs.WellFormed.Committed.{new_object}
 use Rattle.heap_laws.proofs.WellFormed.RegionOpened.{opens_run, thread_with_run}
 use Rattle.heap_laws.proofs.WellFormed.Threads.{changed_thread, other_thread, thread_cases}
@@ -216,11 +218,11 @@ outcome-owed p a b t c answer h =
     go false left_same same = (let owed : owes (thread_at b t).owed ≡ owes (thread_at a t).owed = ap (λ (o : Option ℕ). owes o) (same refl) in omega arith)
 
 -- what each event does
-pub moves : (p : Program) (a : NamedHeap) (e : Event) → IsValid p → IsWellFormed p a → IsNext p a e → HasMoved p a (after p a e) e
-moves p a e valid w next = by_events p a (λ e b. HasMoved p a b e)
+pub moves : (p : Program) (a : NamedHeap) (e : Event) → IsLimited p → IsWellFormed p a → IsNext p a e → HasMoved p a (after p a e) e
+moves p a e limits w next = by_events p a (λ e b. HasMoved p a b e)
     (λ t c answer d.
-    let in_range = (script_command p t (thread_at a t).done c valid d.command).in_range in
-    let board = outcome-board p a t c w valid.pages_most (script_thread p t (thread_at a t).done c d.command) d.alive in_range in
+    let in_range = script_in_range p t (thread_at a t).done c limits d.command in
+    let board = outcome-board p a t c w limits.pages_most (script_thread p t (thread_at a t).done c d.command) d.alive in_range in
     advance-moved p a (outcome_of a t c).heap t c answer d.alive d.command board.others board.own.done board.own.ended
     (outcome-owed p a (outcome_of a t c).heap t c answer board) board.threads (let same = board.objects in omega arith))
     (λ t c answer d. advance-moved p a a t c answer d.alive d.command (λ u other. same_task (thread_at a u)) refl refl (omega arith) refl (omega arith))

@@ -7,13 +7,13 @@ use Rattle.heap_terms.specs.Complete.{IsComplete}
 use Rattle.heap_terms.specs.Heap.{NamedHeap, start, thread_at}
 use Rattle.heap_terms.specs.Histories.{after, Lawful, LawfulFrom, replay, replay_from}
 use Rattle.heap_laws.specs.Remaining.{all_left}
-use Rattle.heap_terms.specs.Valid.{IsValid}
+use Rattle.heap_laws.specs.Limited.{IsLimited}
 use Rattle.heap_terms.specs.WellFormed.{IsWellFormed}
 use Rattle.heap_laws.proofs.Events.Appending.{LawfulFrom-append, replay_from-append}
 use Rattle.heap_laws.proofs.Termination.EventsLeft.{all_left_falls}
 use Rattle.heap_laws.proofs.Progress.NextEvent.{someone_next}
 use Rattle.heap_laws.proofs.Events.Causes.{alive_thread}
-use Rattle.heap_laws.proofs.WellFormed.Replayed.{after-well_formed, replay-well_formed}
+use Rattle.heap_laws.proofs.WellFormed.Replayed.{event-kept, history-kept}
 
 pub alive_below : (a : NamedHeap) (n : ℕ) → ((t : ℕ) × ((thread_at a t).ended ≡ false)) ⊎ ((t : ℕ) → t < n → (thread_at a t).ended ≡ true)
 alive_below a zero = inr (λ t l. absurd (omega arith))
@@ -39,28 +39,28 @@ alive_or_all a = elim (alive_below a (length a.threads)) [
 ]
 
 -- the events that complete a history, by what is left
-pub completed_within : (p : Program) (n : ℕ) (a : NamedHeap) → IsValid p → IsWellFormed p a → all_left p a ≤ n →
+pub completed_within : (p : Program) (n : ℕ) (a : NamedHeap) → IsLimited p → IsWellFormed p a → all_left p a ≤ n →
     (h : List Event) × LawfulFrom p a h × ((t : ℕ) → (thread_at (replay_from p a h) t).ended ≡ true)
-completed_within p zero a valid w most = elim (alive_or_all a) [
+completed_within p zero a limits w most = elim (alive_or_all a) [
   | inr all ↦ ([], tt, all)
   | inl found ↦ (
       let e = someone_next p a found.0 w found.1 in
-      let falls = all_left_falls p a e.0 valid w e.1 in
+      let falls = all_left_falls p a e.0 limits w e.1 in
       absurd (omega arith))
 ]
-completed_within p (suc n) a valid w most = elim (alive_or_all a) [
+completed_within p (suc n) a limits w most = elim (alive_or_all a) [
   | inr all ↦ ([], tt, all)
   | inl found ↦ (
       let e = someone_next p a found.0 w found.1 in
-      let falls = all_left_falls p a e.0 valid w e.1 in
-      let rest = completed_within p n (after p a e.0) valid (after-well_formed p valid a e.0 e.1 w) (omega arith) in
+      let falls = all_left_falls p a e.0 limits w e.1 in
+      let rest = completed_within p n (after p a e.0) limits (event-kept p limits a e.0 e.1 w) (omega arith) in
       (e.0 ∷ rest.0, (e.1, rest.1), rest.2))
 ]
 
--- every lawful history of a valid program is the beginning of a complete one
-pub completed : (p : Program) (h : List Event) → IsValid p → Lawful p h → (more : List Event) × IsComplete p (h ++ more)
-completed p h valid lawful =
-    let rest = completed_within p (all_left p (replay p h)) (replay p h) valid (replay-well_formed p h valid lawful) (omega arith) in
+-- every lawful history of a program within the limits is the beginning of a complete one
+pub completed : (p : Program) (h : List Event) → IsLimited p → Lawful p h → (more : List Event) × IsComplete p (h ++ more)
+completed p h limits lawful =
+    let rest = completed_within p (all_left p (replay p h)) (replay p h) limits (history-kept p h limits lawful) (omega arith) in
     let same : replay p (h ++ rest.0) ≡ replay_from p (replay p h) rest.0 = replay_from-append p (start p) h rest.0 in (
       rest.0,
       record {

@@ -1,4 +1,4 @@
--- A valid program makes at most 20,000 objects, and all of them are conses.
+-- A valid program makes at most 20,000 objects, since no thread does more than its script.
 use Rattle.std.proofs.Common.{◌≡◌, ℕ, ◌+◌, ◌<◌, ◌≤◌, List, [], length, map, true, inl, inr, refl, sym, ◌∙◌, subst, ap, arith, get_or}
 use Rattle.std.proofs.lemmas.Bool.{cases_lt, cases_eq, false≢true}
 use Rattle.std.proofs.lemmas.List.{length-map, get_or-map, get_or_past}
@@ -11,11 +11,13 @@ use Rattle.heap_terms.specs.declared.limits.TheConstants.{MOST_COMMANDS}
 use Rattle.heap_terms.specs.Heap.{NamedHeap, Thread, start, thread_at, fresh_thread, ended_thread}
 use Rattle.heap_terms.specs.Histories.{IsNext, after, Lawful, replay, script_of, thread_of}
 use Rattle.heap_terms.specs.Valid.{IsValid}
+use Rattle.heap_laws.specs.Limited.{IsLimited}
+use Rattle.heap_laws.proofs.Programs.Limits.{limited}
 use Rattle.heap_terms.specs.WellFormed.{IsWellFormed}
 use Rattle.heap_laws.proofs.Events.Appending.{kept_by_events}
 use Rattle.heap_laws.proofs.Events.Causes.{alive_thread}
 use Rattle.heap_laws.proofs.Events.OwnThread.{HasMoved, moves, commands_in}
-use Rattle.heap_laws.proofs.WellFormed.Replayed.{after-well_formed}
+use Rattle.heap_laws.proofs.WellFormed.Replayed.{event-kept}
 use Rattle.heap_laws.proofs.Lists.Sums.{sum_le, sum_change, sum_places}
 use Rattle.heap_laws.proofs.WellFormed.Threads.{start-well_formed}
 
@@ -95,17 +97,17 @@ moved-counted p a b event h w l m =
     }
 
 -- the thread of an event is one of the program's
-pub event_thread : (p : Program) (a : NamedHeap) (e : Event) → IsValid p → IsWellFormed p a → IsNext p a e → thread_of e < length p.threads
-event_thread p a e valid w next =
-    let l = alive_thread a (thread_of e) (moves p a e valid w next).alive in
+pub event_thread : (p : Program) (a : NamedHeap) (e : Event) → IsLimited p → IsWellFormed p a → IsNext p a e → thread_of e < length p.threads
+event_thread p a e limits w next =
+    let l = alive_thread a (thread_of e) (moves p a e limits w next).alive in
     let same = w.threads_length in omega arith
 
-pub after-counted : (p : Program) → IsValid p → (a : NamedHeap) (e : Event) → IsNext p a e → IsCounted p a → IsCounted p (after p a e)
-after-counted p valid a e next h =
-    moved-counted p a (after p a e) e h (after-well_formed p valid a e next h.formed) (event_thread p a e valid h.formed next) (moves p a e valid h.formed next)
+pub after-counted : (p : Program) → IsLimited p → (a : NamedHeap) (e : Event) → IsNext p a e → IsCounted p a → IsCounted p (after p a e)
+after-counted p limits a e next h =
+    moved-counted p a (after p a e) e h (event-kept p limits a e next h.formed) (event_thread p a e limits h.formed next) (moves p a e limits h.formed next)
 
-pub replay-counted : (p : Program) (h : List Event) → IsValid p → Lawful p h → IsCounted p (replay p h)
-replay-counted p h valid lawful = kept_by_events p (λ a. IsCounted p a) (after-counted p valid) (start p) h (start-counted p) lawful
+pub replay-counted : (p : Program) (h : List Event) → IsLimited p → Lawful p h → IsCounted p (replay p h)
+replay-counted p h limits lawful = kept_by_events p (λ a. IsCounted p a) (after-counted p limits) (start p) h (start-counted p) lawful
 
 -- no more objects than the commands of all scripts
 pub counted_few : (p : Program) (a : NamedHeap) → IsValid p → IsCounted p a → length a.objects ≤ MOST_COMMANDS
@@ -118,4 +120,4 @@ counted_few p a valid h =
     omega arith
 
 pub commits_few : (p : Program) (h : List Event) → IsValid p → Lawful p h → length (replay p h).objects ≤ MOST_COMMANDS
-commits_few p h valid lawful = counted_few p (replay p h) valid (replay-counted p h valid lawful)
+commits_few p h valid lawful = counted_few p (replay p h) valid (replay-counted p h (limited p valid) lawful)

@@ -1,10 +1,10 @@
 -- The events of a valid program are plain.
-use Rattle.std.proofs.Common.{◌≡◌, ℕ, ◌*◌, ◌<◌, ◌≤◌, List, [], ◌∷◌, ◌++◌, length, Option, Some, None, inl, inr, refl, sym, ◌∙◌, subst, ap, arith}
+use Rattle.std.proofs.Common.{◌≡◌, ℕ, ◌*◌, ◌<◌, ◌≤◌, List, [], ◌∷◌, ◌++◌, length, Option, Some, None, inl, inr, refl, ◌∙◌, subst, ap, arith}
 use Rattle.std.proofs.lemmas.Bool.{cases_lt, false≢true}
 use Rattle.std.proofs.lemmas.List.{get_or_past, get_or_push, length_push}
 use Rattle.std.proofs.lemmas.List.Elements.{All-from_recursion}
 use Rattle.std.specs.List.{All, AllByRecursion}
-use Rattle.std.specs.Prelude.{IsSome, slice_index_or}
+use Rattle.std.specs.Prelude.{IfSome, IsSome, slice_index_or}
 use Rattle.heap_terms.specs.declared.answers.Answer.TheVariants as answers
 use Rattle.heap_terms.specs.declared.cells.Value.{Value}
 use Rattle.heap_terms.specs.declared.cells.Value.TheVariants as values
@@ -27,13 +27,13 @@ use Rattle.heap_terms.specs.Regions.{committed, place_for}
 use Rattle.heap_terms.specs.Valid.{IsValid}
 use Rattle.heap_terms.specs.WellFormed.{IsWellFormed, IsLiving, HoldsLiving}
 use Rattle.heap_laws.proofs.WellFormed.Committed.{new_object}
-use Rattle.heap_laws.proofs.Programs.OweNothing.{after-owes, start-owes}
+use Rattle.pass_laws.proofs.Ranges.{collection_plain}
 use Rattle.heap_laws.proofs.Ranges.ObjectCount.{IsCounted, after-counted, start-counted, counted_few, event_thread}
-use Rattle.heap_laws.proofs.Events.Tasks.{OweNothing}
 use Rattle.heap_laws.proofs.Outcomes.Parts.{needing_cases, indexing_cases, fields_refer}
 use Rattle.heap_laws.proofs.Events.Causes.{by_events}
 use Rattle.heap_laws.proofs.WellFormed.LivingValues.{cell_living, fields_living}
 use Rattle.heap_laws.proofs.Events.OwnThread.{built_heap}
+use Rattle.heap_laws.proofs.Programs.Limits.{limited}
 use Rattle.heap_laws.proofs.Programs.BuiltCommands.{IsBuilt, script_built, script_command}
 use Rattle.heap_laws.proofs.WellFormed.PagesStay.{needs_least, size_least}
 
@@ -78,9 +78,14 @@ built_inside p a b t c kind n w objects =
     let pages = w.pages_length in
     omega arith
 
+-- a thread owes no more than a full collection
+owed_most : (o : Option ℕ) (last : ℕ) → IfSome o (λ g. g ≤ 5) → o ≡ Some last → last ≤ 5
+owed_most None last h e = cc
+owed_most (Some g) last h e = let same : g ≡ last = cc in subst (λ (x : ℕ). x ≤ 5) same h
+
 -- each event from a heap that a valid program left
-pub event_plain : (p : Program) (a : NamedHeap) (e : Event) → IsValid p → IsCounted p a → OweNothing a → IsNext p a e → IsPlain e
-event_plain p a e valid h calm next =
+pub event_plain : (p : Program) (a : NamedHeap) (e : Event) → IsValid p → IsCounted p a → IsNext p a e → IsPlain e
+event_plain p a e valid h next =
     let w = h.formed in
     let few = counted_few p a valid h in
     let threads = valid.threads_most in
@@ -107,18 +112,18 @@ event_plain p a e valid h calm next =
     let inside = d.lowest.run.inside in
     let least : 1 ≤ k = rw d.count_is (needs_least (size_of d.kind d.n)) in
     (omega arith, omega arith, least, omega arith))
-    (λ t last passes d later l. let never : None ≡ Some last = sym (calm t) ∙ d.owes in cc)
+    (λ t last passes d later l. (omega arith, owed_most (thread_at a t).owed last (w.threads t l).owed d.owes, collection_plain p a last passes w pages few d.collection))
     (λ t d later l. omega arith)
     e next in
-    plain (after-counted p valid a e next h) (event_thread p a e valid w next)
+    plain (after-counted p (limited p valid) a e next h) (event_thread p a e (limited p valid) w next)
 
-events_plain : (p : Program) (a : NamedHeap) (h : List Event) → IsValid p → IsCounted p a → OweNothing a → LawfulFrom p a h → AllByRecursion IsPlain h
-events_plain p a [] valid counted calm lawful = tt
-events_plain p a (e ∷ es) valid counted calm lawful = (
-  event_plain p a e valid counted calm lawful.0,
-  events_plain p (after p a e) es valid (after-counted p valid a e lawful.0 counted) (after-owes p valid a e lawful.0 counted.formed calm) lawful.1,
+events_plain : (p : Program) (a : NamedHeap) (h : List Event) → IsValid p → IsCounted p a → LawfulFrom p a h → AllByRecursion IsPlain h
+events_plain p a [] valid counted lawful = tt
+events_plain p a (e ∷ es) valid counted lawful = (
+  event_plain p a e valid counted lawful.0,
+  events_plain p (after p a e) es valid (after-counted p (limited p valid) a e lawful.0 counted) lawful.1,
 )
 
 -- each event of a lawful history of a valid program is plain
 pub history_plain : (p : Program) (h : List Event) → IsValid p → Lawful p h → All IsPlain h
-history_plain p h valid lawful = All-from_recursion IsPlain h (events_plain p (start p) h valid (start-counted p) (start-owes p) lawful)
+history_plain p h valid lawful = All-from_recursion IsPlain h (events_plain p (start p) h valid (start-counted p) lawful)

@@ -23,7 +23,10 @@ use Rattle.heap_terms.specs.Layout.{page_words, page_type_of, size_of}
 use Rattle.heap_laws.specs.Order.{command_in, is_end}
 use Rattle.heap_laws.specs.Remaining.{left, owes, collections_left, triggers_left, collection_weight, all_left, opens_next, events_at_most, most_events}
 use Rattle.heap_terms.specs.Regions.{Wish, is_small, pages_needed, has_room, page_has_room, entry_has_room, entry_is_run, run_has_room, same_type, opened, with_run, IsFreeRun}
-use Rattle.heap_terms.specs.Valid.{IsValid, is_gc}
+use Rattle.heap_terms.specs.Valid.{is_gc}
+use Rattle.heap_terms.specs.Valid.{IsValid}
+use Rattle.heap_laws.specs.Limited.{IsLimited}
+use Rattle.heap_laws.proofs.Programs.Limits.{limited}
 use Rattle.heap_terms.specs.WellFormed.{IsWellFormed}
 use Rattle.heap_laws.proofs.Events.Causes.{alive_thread, Opens, opens_from}
 use Rattle.heap_laws.proofs.Ranges.ObjectCount.{event_thread, start_thread_is}
@@ -31,7 +34,7 @@ use Rattle.heap_laws.proofs.Events.OwnThread.{moves, gcs_in, collections_in}
 use Rattle.heap_laws.proofs.Events.ScriptSteps.{script_step}
 use Rattle.heap_laws.proofs.WellFormed.RegionOpened.{run_entry, opens_run, thread_with_run}
 use Rattle.heap_laws.proofs.Events.OtherThreads.{next_same, is_collection, others_left}
-use Rattle.heap_laws.proofs.WellFormed.Replayed.{after-well_formed}
+use Rattle.heap_laws.proofs.WellFormed.Replayed.{event-kept}
 use Rattle.heap_laws.proofs.WellFormed.PagesStay.{small_needs, small_most, needs_two, needs_least}
 use Rattle.heap_laws.proofs.Lists.Sums.{sum_change, sum_le, sum_more, sum_weighted, sum_places, sum_double}
 use Rattle.heap_laws.proofs.Events.Tasks.{next_free-is}
@@ -60,11 +63,11 @@ left_most p a t = elim (cases_Bool (thread_at a t).ended) [
 ]
 
 -- another thread has as much left as before, but for a collection
-pub left_others : (p : Program) (a : NamedHeap) (e : Event) → IsValid p → IsWellFormed p a → IsNext p a e → is_collection e ≡ false → (u : ℕ) → u ≢ thread_of e →
+pub left_others : (p : Program) (a : NamedHeap) (e : Event) → IsLimited p → IsWellFormed p a → IsNext p a e → is_collection e ≡ false → (u : ℕ) → u ≢ thread_of e →
     left p (after p a e) u ≡ left p a u
-left_others p a e valid w next_is calm u other =
+left_others p a e limits w next_is calm u other =
     let b = after p a e in
-    let h = others_left p a e valid w next_is calm u other in
+    let h = others_left p a e limits w next_is calm u other in
     let same = next_same p a b u h.task h.entries in
     go h.task.ended h.task.done same
   where
@@ -158,19 +161,19 @@ unfolding IsNext
 collects_is p a t last passes h = h.0
 
 -- the thread of an event that is no collection has less left
-left_falls : (p : Program) (a : NamedHeap) (e : Event) → IsValid p → IsWellFormed p a → IsNext p a e → is_collection e ≡ false →
+left_falls : (p : Program) (a : NamedHeap) (e : Event) → IsLimited p → IsWellFormed p a → IsNext p a e → is_collection e ≡ false →
     left p (after p a e) (thread_of e) + 1 ≤ left p a (thread_of e)
-left_falls p a (Did t c answer) valid w next_is calm =
+left_falls p a (Did t c answer) limits w next_is calm =
     let b = after p a (Did t c answer) in
-    let m = moves p a (Did t c answer) valid w next_is in
+    let m = moves p a (Did t c answer) limits w next_is in
     let before = left_alive p a t m.alive in
     let later = left_alive p b t m.ended in
     let within = m.within (omega arith) in
     let done = m.done in
     omega (arith, opens_next_most (next p b t))
-left_falls p a (Opened t ty first k) valid w next_is calm =
+left_falls p a (Opened t ty first k) limits w next_is calm =
     let b = after p a (Opened t ty first k) in
-    let m = moves p a (Opened t ty first k) valid w next_is in
+    let m = moves p a (Opened t ty first k) limits w next_is in
     let d = opens_from p a t ty first k next_is in
     let before = left_alive p a t m.alive in
     let later = left_alive p b t m.ended in
@@ -178,10 +181,10 @@ left_falls p a (Opened t ty first k) valid w next_is calm =
     let opens : opens_next (next p a t) ≡ 1 = ap (λ (n : Next). opens_next n) (opens_is p a t ty first k next_is) in
     let builds : opens_next (next p b t) ≡ 0 = opened_none p a t ty first k d in
     omega arith
-left_falls p a (Collected t last passes) valid w next_is calm = absurd (true≢false calm)
-left_falls p a (Ended t) valid w next_is calm =
+left_falls p a (Collected t last passes) limits w next_is calm = absurd (true≢false calm)
+left_falls p a (Ended t) limits w next_is calm =
     let b = after p a (Ended t) in
-    let m = moves p a (Ended t) valid w next_is in
+    let m = moves p a (Ended t) limits w next_is in
     let before = left_alive p a t m.alive in
     let later = left_ended p b t m.ended in
     omega arith
@@ -206,10 +209,10 @@ collections_ended : (p : Program) (a : NamedHeap) (t : ℕ) → (thread_at a t).
 collections_ended p a t ended = rw ended refl
 
 -- another thread as many as before
-collections_others : (p : Program) (a : NamedHeap) (e : Event) → IsValid p → IsWellFormed p a → IsNext p a e → (u : ℕ) → u ≢ thread_of e →
+collections_others : (p : Program) (a : NamedHeap) (e : Event) → IsLimited p → IsWellFormed p a → IsNext p a e → (u : ℕ) → u ≢ thread_of e →
     collections_left p (after p a e) u ≡ collections_left p a u
-collections_others p a e valid w next_is u other =
-    let m = (moves p a e valid w next_is).others u other in
+collections_others p a e limits w next_is u other =
+    let m = (moves p a e limits w next_is).others u other in
     go m.ended m.done m.owed
   where
     go : {d d' : Bool} {i i' : ℕ} {o o' : Option ℕ} → d' ≡ d → i' ≡ i → o' ≡ o →
@@ -233,10 +236,10 @@ count_first c cs =
     ]
 
 -- those of the script that are left before an event are the event's own and those that are left after it
-gcs_step : (p : Program) (a : NamedHeap) (e : Event) → IsValid p → IsWellFormed p a → IsNext p a e →
+gcs_step : (p : Program) (a : NamedHeap) (e : Event) → IsLimited p → IsWellFormed p a → IsNext p a e →
     count_by is_gc (drop (thread_at a (thread_of e)).done (script_of p (thread_of e)))
     ≡ gcs_in e + count_by is_gc (drop (thread_at (after p a e) (thread_of e)).done (script_of p (thread_of e)))
-gcs_step p a e valid w next_is = ap (λ (cs : List Command). count_by is_gc cs) (script_step p a e valid w next_is) ∙ own e _
+gcs_step p a e limits w next_is = ap (λ (cs : List Command). count_by is_gc cs) (script_step p a e limits w next_is) ∙ own e _
   where
     own : (e : Event) (cs : List Command) → count_by is_gc (cons_option (command_in e) cs) ≡ gcs_in e + count_by is_gc cs
     own (Did t c answer) cs = count_first c cs
@@ -245,14 +248,14 @@ gcs_step p a e valid w next_is = ap (λ (cs : List Command). count_by is_gc cs) 
     own (Ended t) cs = omega arith
 
 -- the event's own thread has no more collections left, with those that `auto` may ask for, and one less after a collection
-collections_fall : (p : Program) (a : NamedHeap) (e : Event) → IsValid p → IsWellFormed p a → IsNext p a e →
+collections_fall : (p : Program) (a : NamedHeap) (e : Event) → IsLimited p → IsWellFormed p a → IsNext p a e →
     collections_left p (after p a e) (thread_of e) + triggers_left p (after p a e) + collections_in e ≤ collections_left p a (thread_of e) + triggers_left p a
-collections_fall p a e valid w next_is =
+collections_fall p a e limits w next_is =
     let b = after p a e in
     let t = thread_of e in
-    let m = moves p a e valid w next_is in
+    let m = moves p a e limits w next_is in
     let before = collections_alive p a t m.alive in
-    let step = gcs_step p a e valid w next_is in
+    let step = gcs_step p a e limits w next_is in
     let owed = m.owed in
     elim (cases_Bool (is_end e)) [
       | inl end ↦ (
@@ -273,28 +276,28 @@ abbrev weighted : Program → NamedHeap → ℕ → ℕ
 weighted p a t = left p a t + collection_weight * collections_left p a t
 
 -- an event that is no collection
-quiet_falls : (p : Program) (a : NamedHeap) (e : Event) → IsValid p → IsWellFormed p a → IsNext p a e → is_collection e ≡ false → all_left p (after p a e) + 1 ≤ all_left p a
-quiet_falls p a e valid w next_is calm =
+quiet_falls : (p : Program) (a : NamedHeap) (e : Event) → IsLimited p → IsWellFormed p a → IsNext p a e → is_collection e ≡ false → all_left p (after p a e) + 1 ≤ all_left p a
+quiet_falls p a e limits w next_is calm =
     let b = after p a e in
     let t = thread_of e in
-    let l = event_thread p a e valid w next_is in
+    let l = event_thread p a e limits w next_is in
     let change : sum_by (weighted p b) (range_with_len 0 (length p.threads)) + weighted p a t ≡ sum_by (weighted p a) (range_with_len 0 (length p.threads)) + weighted p b t =
     sum_change (weighted p a) (weighted p b) t 0 (length p.threads) (omega arith) (omega arith)
-    (λ u other. rw (left_others p a e valid w next_is calm u other, collections_others p a e valid w next_is u other) refl) in
-    let falls = left_falls p a e valid w next_is calm in
-    let fewer = collections_fall p a e valid w next_is in
+    (λ u other. rw (left_others p a e limits w next_is calm u other, collections_others p a e limits w next_is u other) refl) in
+    let falls = left_falls p a e limits w next_is calm in
+    let fewer = collections_fall p a e limits w next_is in
     omega arith
 
 -- a collection
-collection_falls : (p : Program) (a : NamedHeap) (t last : ℕ) (passes : List PassRecord) → IsValid p → IsWellFormed p a → IsNext p a (Collected t last passes) →
+collection_falls : (p : Program) (a : NamedHeap) (t last : ℕ) (passes : List PassRecord) → IsLimited p → IsWellFormed p a → IsNext p a (Collected t last passes) →
     all_left p (after p a (Collected t last passes)) + 1 ≤ all_left p a
-collection_falls p a t last passes valid w next_is =
+collection_falls p a t last passes limits w next_is =
     let e = Collected t last passes in
     let b = after p a e in
     let n = length p.threads in
     let range = range_with_len 0 n in
-    let l = event_thread p a e valid w next_is in
-    let m = moves p a e valid w next_is in
+    let l = event_thread p a e limits w next_is in
+    let m = moves p a e limits w next_is in
     let between : ℕ → ℕ = λ u. left p a u + collection_weight * collections_left p b u in
     let far : (u : ℕ) → left p b u ≤ 1 + left p a u = λ u. elim (cases_eq u t) [
       | inl same ↦ rw same (left_as_far p a b t (let done = m.done in omega arith) (m.ended ∙ sym m.alive))
@@ -303,25 +306,25 @@ collection_falls p a t last passes valid w next_is =
     let most : sum_by (weighted p b) range ≤ sum_by (λ u. 1 + between u) range = sum_le (weighted p b) (λ u. 1 + between u) 0 n (λ u low high. let f = far u in omega arith) in
     let more : sum_by (λ u. 1 + between u) range ≡ n + sum_by between range = sum_more between 0 n in
     let change : sum_by between range + weighted p a t ≡ sum_by (weighted p a) range + between t =
-    sum_change (weighted p a) between t 0 n (omega arith) (omega arith) (λ u other. rw (collections_others p a e valid w next_is u other) refl) in
-    let fewer = collections_fall p a e valid w next_is in
-    let threads = valid.threads_most in
+    sum_change (weighted p a) between t 0 n (omega arith) (omega arith) (λ u other. rw (collections_others p a e limits w next_is u other) refl) in
+    let fewer = collections_fall p a e limits w next_is in
+    let threads = limits.threads_most in
     omega arith
 
 -- with each event there is less left
-pub all_left_falls : (p : Program) (a : NamedHeap) (e : Event) → IsValid p → IsWellFormed p a → IsNext p a e → all_left p (after p a e) + 1 ≤ all_left p a
-all_left_falls p a (Did t c answer) valid w next_is = quiet_falls p a (Did t c answer) valid w next_is refl
-all_left_falls p a (Opened t ty first k) valid w next_is = quiet_falls p a (Opened t ty first k) valid w next_is refl
-all_left_falls p a (Collected t last passes) valid w next_is = collection_falls p a t last passes valid w next_is
-all_left_falls p a (Ended t) valid w next_is = quiet_falls p a (Ended t) valid w next_is refl
+pub all_left_falls : (p : Program) (a : NamedHeap) (e : Event) → IsLimited p → IsWellFormed p a → IsNext p a e → all_left p (after p a e) + 1 ≤ all_left p a
+all_left_falls p a (Did t c answer) limits w next_is = quiet_falls p a (Did t c answer) limits w next_is refl
+all_left_falls p a (Opened t ty first k) limits w next_is = quiet_falls p a (Opened t ty first k) limits w next_is refl
+all_left_falls p a (Collected t last passes) limits w next_is = collection_falls p a t last passes limits w next_is
+all_left_falls p a (Ended t) limits w next_is = quiet_falls p a (Ended t) limits w next_is refl
 
 -- a list of events is no longer than what was left
-pub history_bounded : (p : Program) (a : NamedHeap) (h : List Event) → IsValid p → IsWellFormed p a → LawfulFrom p a h →
+pub history_bounded : (p : Program) (a : NamedHeap) (h : List Event) → IsLimited p → IsWellFormed p a → LawfulFrom p a h →
     length h + all_left p (replay_from p a h) ≤ all_left p a
-history_bounded p a [] valid w lawful = omega arith
-history_bounded p a (e ∷ es) valid w lawful =
-    let one = all_left_falls p a e valid w lawful.0 in
-    let rest = history_bounded p (after p a e) es valid (after-well_formed p valid a e lawful.0 w) lawful.1 in
+history_bounded p a [] limits w lawful = omega arith
+history_bounded p a (e ∷ es) limits w lawful =
+    let one = all_left_falls p a e limits w lawful.0 in
+    let rest = history_bounded p (after p a e) es limits (event-kept p limits a e lawful.0 w) lawful.1 in
     omega arith
 
 -- at the start no collection is owed, and none has been asked for
@@ -350,9 +353,9 @@ start_left p =
     let triggers = start_triggers p in
     omega arith
 
-pub history_short : (p : Program) (h : List Event) → IsValid p → Lawful p h → length h ≤ events_at_most p
-history_short p h valid lawful =
-    let bound = history_bounded p (start p) h valid (start-well_formed p) lawful in
+pub history_short : (p : Program) (h : List Event) → IsLimited p → Lawful p h → length h ≤ events_at_most p
+history_short p h limits lawful =
+    let bound = history_bounded p (start p) h limits (start-well_formed p) lawful in
     let most = start_left p in
     omega arith
 
@@ -370,4 +373,4 @@ events_few p valid =
     some false = omega arith
 
 pub history_few : (p : Program) (h : List Event) → IsValid p → Lawful p h → length h ≤ most_events
-history_few p h valid lawful = let own = history_short p h valid lawful in let most = events_few p valid in omega arith
+history_few p h valid lawful = let own = history_short p h (limited p valid) lawful in let most = events_few p valid in omega arith

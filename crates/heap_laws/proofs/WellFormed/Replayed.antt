@@ -1,4 +1,4 @@
--- Every lawful history of a valid program leaves a well-formed heap.
+-- Every lawful history of a program within the limits leaves a well-formed heap.
 use Rattle.std.proofs.Common.{◌≡◌, ℕ, ◌^◌, ◌<◌, ◌≤◌, List, [], length, Bool, false, refl, arith}
 use Rattle.heap_terms.specs.declared.commands.Command.{Command}
 use Rattle.heap_terms.specs.declared.events.Event.{Event}
@@ -10,11 +10,13 @@ use Rattle.heap_terms.specs.Layout.{size_of}
 use Rattle.heap_terms.specs.Outcomes.{outcome_of}
 use Rattle.heap_terms.specs.Regions.{committed}
 use Rattle.heap_terms.specs.Valid.{IsValid, IsInRange, is_gc}
+use Rattle.heap_laws.specs.Limited.{IsLimited}
 use Rattle.heap_terms.specs.WellFormed.{IsWellFormed}
 use Rattle.heap_laws.proofs.Events.Appending.{kept_by_events}
 use Rattle.heap_laws.proofs.Events.Causes.{by_events}
 use Rattle.heap_laws.proofs.Outcomes.Changes.{IsRewritten, by_outcome}
-use Rattle.heap_laws.proofs.Programs.BuiltCommands.{script_thread, script_command}
+use Rattle.heap_laws.proofs.Programs.Limits.{limited, script_in_range}
+use Rattle.heap_laws.proofs.Programs.BuiltCommands.{script_thread}
 use Rattle.heap_laws.proofs.WellFormed.Committed.{committed-kept}
 use Rattle.heap_laws.proofs.WellFormed.FieldWritten.{written-kept, queued-kept}
 use Rattle.heap_laws.proofs.WellFormed.LivingValues.{AreBelow-nil}
@@ -38,15 +40,15 @@ outcome-kept p a t c w few l alive in_range = by_outcome p a t (λ b. IsWellForm
     (queued-kept p a a.finalizers [] w w.sound.finalizers (AreBelow-nil (2 ^ 32) (omega arith)))
     c refl in_range
 
--- each event keeps a heap of a valid program well-formed
-pub after-well_formed : (p : Program) → IsValid p → (a : NamedHeap) (e : Event) → IsNext p a e → IsWellFormed p a → IsWellFormed p (after p a e)
-after-well_formed p valid a e next w = by_events p a (λ e b. IsWellFormed p b)
+-- each event keeps a heap of a program within the limits well-formed
+pub event-kept : (p : Program) → IsLimited p → (a : NamedHeap) (e : Event) → IsNext p a e → IsWellFormed p a → IsWellFormed p (after p a e)
+event-kept p limits a e next w = by_events p a (λ e b. IsWellFormed p b)
     (λ t c answer d. advance-kept p (outcome_of a t c).heap t
-    (outcome-kept p a t c w valid.pages_most (script_thread p t (thread_at a t).done c d.command) d.alive
-    (script_command p t (thread_at a t).done c valid d.command).in_range))
+    (outcome-kept p a t c w limits.pages_most (script_thread p t (thread_at a t).done c d.command) d.alive
+    (script_in_range p t (thread_at a t).done c limits d.command)))
     (λ t c answer d. advance-kept p a t w)
     (λ t c answer kind n seed d. advance-kept p (committed p a t c kind n) t
-    (committed-kept p a t c kind n seed w (script_thread p t (thread_at a t).done c d.command) (script_command p t (thread_at a t).done c valid d.command).in_range
+    (committed-kept p a t c kind n seed w (script_thread p t (thread_at a t).done c d.command) (script_in_range p t (thread_at a t).done c limits d.command)
     d.wish d.room))
     (λ t ty first k d. opened-kept p a t ty first k w d.lowest.run (rw d.count_is (needs_least (size_of d.kind d.n))))
     (λ t last passes d. collected-well_formed p a t last passes w d.collection)
@@ -54,9 +56,16 @@ after-well_formed p valid a e next w = by_events p a (λ e b. IsWellFormed p b)
     e next
 
 -- from a well-formed heap on
-pub replay_from-well_formed : (p : Program) → IsValid p → (a : NamedHeap) (h : List Event) → IsWellFormed p a → LawfulFrom p a h → IsWellFormed p (replay_from p a h)
-replay_from-well_formed p valid = kept_by_events p (λ a. IsWellFormed p a) (after-well_formed p valid)
+pub history_from-kept : (p : Program) → IsLimited p → (a : NamedHeap) (h : List Event) → IsWellFormed p a → LawfulFrom p a h → IsWellFormed p (replay_from p a h)
+history_from-kept p limits = kept_by_events p (λ a. IsWellFormed p a) (event-kept p limits)
 
 -- and from the start of the program
+pub history-kept : (p : Program) (h : List Event) → IsLimited p → Lawful p h → IsWellFormed p (replay p h)
+history-kept p h limits lawful = history_from-kept p limits (start p) h (start-well_formed p) lawful
+
+-- the same of valid programs
+pub after-well_formed : (p : Program) → IsValid p → (a : NamedHeap) (e : Event) → IsNext p a e → IsWellFormed p a → IsWellFormed p (after p a e)
+after-well_formed p valid = event-kept p (limited p valid)
+
 pub replay-well_formed : (p : Program) (h : List Event) → IsValid p → Lawful p h → IsWellFormed p (replay p h)
-replay-well_formed p h valid lawful = replay_from-well_formed p valid (start p) h (start-well_formed p) lawful
+replay-well_formed p h valid lawful = history-kept p h (limited p valid) lawful

@@ -1,7 +1,7 @@
 use Rattle.std.proofs.Common.{◌≡◌, ◌+◌, ◌-◌, length, take, drop, replicate, ap, ◌∙◌, arith}
 use Rattle.std.proofs.lemmas.List.{length-take, length-drop}
 use Rattle.std.proofs.Math.Nat.{add-sub_cancel_left}
-use Rattle.page_table.proofs.Runs.{unpacked-run}
+use Rattle.page_table.proofs.RunSearch.{unpacked-run}
 use Rattle.page_table.proofs.table.fill_run.Goals as goal
 
 pub returns : goal.returns

@@ -1,7 +1,7 @@
 use Rattle.std.proofs.Common.{◌<◌, length, arith}
 use Rattle.std.proofs.lemmas.List.{length-map}
 use Rattle.page_table.specs.Unpacked.{unpacked_all}
-use Rattle.page_table.proofs.Runs.{searched_used, searched_free, searched_found, searched_all, free-unpacked}
+use Rattle.page_table.proofs.RunSearch.{searched_used, searched_free, searched_found, searched_all, free-unpacked}
 use Rattle.page_table.proofs.table.lowest_run.Goals as goal
 use Rattle.page_table.proofs.table.lowest_run.Goals.{then-not-is_free, else-not-is_free+else-p-start}
 

@@ -1,5 +1,5 @@
 use Rattle.page_table.specs.Unpacked.{unpacked_all}
-use Rattle.page_table.proofs.Runs.{IsSearched}
+use Rattle.page_table.proofs.RunSearch.{IsSearched}
 use Rattle.page_table.proofs.table.lowest_run.Given as goal
 
 abbrev pub invariant-loop-p : goal.invariant-loop-p

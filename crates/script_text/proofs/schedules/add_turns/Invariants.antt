@@ -1,5 +1,5 @@
 use Rattle.std.proofs.Common.{◌≡◌, ◌≤◌, length}
-use Rattle.script_text.specs.Answers.{turns_behind}
+use Rattle.script_text.specs.ReaderAnswers.{turns_behind}
 use Rattle.script_text.specs.Left.{fields_left, lines_after}
 use Rattle.script_text.proofs.schedules.add_turns.Given as goal
 

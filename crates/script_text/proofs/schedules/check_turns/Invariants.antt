@@ -1,6 +1,6 @@
 use Rattle.std.proofs.Common.{◌≡◌, List, ℕ, length}
 use Rattle.heap_terms.specs.Grammar.{turns_of_all}
-use Rattle.script_text.specs.Answers.{turns_behind}
+use Rattle.script_text.specs.ReaderAnswers.{turns_behind}
 use Rattle.script_text.specs.Left.{fields_left}
 use Rattle.script_text.proofs.schedules.check_turns.Given as goal
 

@@ -1,5 +1,5 @@
 use Rattle.std.proofs.Common.{◌≡◌, ◌+◌, ◌≤◌, ◌++◌, reverse, vec_len, vec_capacity}
-use Rattle.stop_words.specs.Slots.{parcels_in}
+use Rattle.stop_words.specs.ParcelSlots.{parcels_in}
 use Rattle.stop_words.proofs.table.out_of_slots.Given as goal
 
 abbrev pub invariant-loop-slot : goal.invariant-loop-slot

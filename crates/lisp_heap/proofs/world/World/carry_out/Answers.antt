@@ -5,7 +5,7 @@ use Rattle.heap_terms.specs.declared.pages.Next.TheVariants as nexts
 use Rattle.heap_terms.specs.Histories.{command_at, after}
 use Rattle.lisp_heap.specs.Plan.{IsPlan}
 use Rattle.lisp_heap.specs.Standing.{Holds}
-use Rattle.lisp_heap.specs.Sound.{IsSound}
+use Rattle.lisp_heap.specs.WorldSound.{IsSound}
 use Rattle.lisp_heap.specs.View.{View, heap_of, next_of}
 use Rattle.lisp_heap.specs.declared.world.World.TheInside.{Inside}
 use Rattle.lisp_heap.proofs.Soundness.{heap, states_length}

@@ -6,7 +6,7 @@ use Rattle.heap_terms.specs.Heap.{NamedHeap}
 use Rattle.heap_terms.specs.Histories.{after, next}
 use Rattle.lisp_heap.specs.Agreement.{Agrees}
 use Rattle.lisp_heap.specs.ParcelView.{empty_parcel}
-use Rattle.lisp_heap.specs.Sound.{view_of, parts_of, IsSound}
+use Rattle.lisp_heap.specs.WorldSound.{view_of, parts_of, IsSound}
 use Rattle.lisp_heap.specs.Standing.{Holds}
 use Rattle.lisp_heap.specs.View.{View, next_of}
 use Rattle.lisp_heap.specs.declared.world.World.TheInside.{Inside}

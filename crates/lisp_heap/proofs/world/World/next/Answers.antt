@@ -10,7 +10,7 @@ use Rattle.heap_terms.specs.Regions.{wish_of}
 use Rattle.heap_laws.proofs.NextEvents.{replay-owes}
 use Rattle.heap_laws.proofs.ValidScripts.{script_command}
 use Rattle.lisp_heap.specs.Agreement.{Agrees, CanBuild}
-use Rattle.lisp_heap.specs.Sound.{view_of, IsSound}
+use Rattle.lisp_heap.specs.WorldSound.{view_of, IsSound}
 use Rattle.lisp_heap.specs.State.{state_of}
 use Rattle.lisp_heap.specs.View.{View, heap_of, next_of}
 use Rattle.lisp_heap.specs.Wishes.{Wishes}

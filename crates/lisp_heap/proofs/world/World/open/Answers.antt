@@ -9,7 +9,7 @@ use Rattle.heap_terms.specs.Regions.{IsLowestRun}
 use Rattle.heap_laws.proofs.AtPlaces.{IsSome-value}
 use Rattle.lisp_heap.specs.ParcelView.{with_cons}
 use Rattle.lisp_heap.specs.Standing.{Holds}
-use Rattle.lisp_heap.specs.Sound.{IsSound}
+use Rattle.lisp_heap.specs.WorldSound.{IsSound}
 use Rattle.lisp_heap.specs.View.{View, heap_of, next_of}
 use Rattle.lisp_heap.specs.declared.world.World.TheInside.{Inside}
 use Rattle.lisp_heap.proofs.Soundness.{heap, states_length}

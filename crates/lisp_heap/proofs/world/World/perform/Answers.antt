@@ -2,7 +2,7 @@
 use Rattle.std.proofs.Common.{◌≡◌, subst, sym, Some, IsSome}
 use Rattle.heap_terms.specs.declared.pages.Next.TheVariants as nexts
 use Rattle.heap_terms.specs.Histories.{command_at}
-use Rattle.lisp_heap.specs.Sound.{view_of}
+use Rattle.lisp_heap.specs.WorldSound.{view_of}
 use Rattle.lisp_heap.specs.View.{View, heap_of, next_of}
 use Rattle.lisp_heap.proofs.Commands.{one_of_four}
 use Rattle.lisp_heap.proofs.Stepping.{has_command}

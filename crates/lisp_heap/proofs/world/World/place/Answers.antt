@@ -12,7 +12,7 @@ use Rattle.heap_terms.specs.Spelling.{word_of}
 use Rattle.heap_terms.specs.Cells.{cell_value}
 use Rattle.heap_laws.proofs.ValidScripts.{script_built}
 use Rattle.lisp_heap.specs.ParcelView.{with_accepted}
-use Rattle.lisp_heap.specs.Sound.{IsSound}
+use Rattle.lisp_heap.specs.WorldSound.{IsSound}
 use Rattle.lisp_heap.specs.View.{View, heap_of, next_of}
 use Rattle.lisp_heap.specs.declared.world.World.TheInside.{Inside}
 use Rattle.lisp_heap.proofs.Soundness.{heap, states_length, cells_room}

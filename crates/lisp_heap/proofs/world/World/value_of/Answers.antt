@@ -6,7 +6,7 @@ use Rattle.heap_terms.specs.declared.cells.Value.TheVariants.{Ref, Nil}
 use Rattle.heap_terms.specs.WellFormed.{IsLiving}
 use Rattle.heap_terms.specs.Spelling.{word_of}
 use Rattle.lisp_heap.specs.LivingWords.{IsWord}
-use Rattle.lisp_heap.specs.Sound.{view_of}
+use Rattle.lisp_heap.specs.WorldSound.{view_of}
 use Rattle.lisp_heap.specs.View.{View, heap_of}
 use Rattle.lisp_heap.proofs.WordReading.{found_at, nil_at, label_is, label_there}
 use Rattle.lisp_heap.proofs.world.World.value_of.Goals as goal

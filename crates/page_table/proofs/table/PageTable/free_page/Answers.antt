@@ -1,5 +1,5 @@
 use Rattle.heap_terms.specs.declared.pages.Entry.TheVariants as entries
-use Rattle.page_table.proofs.Runs.{unpacked-written}
+use Rattle.page_table.proofs.RunSearch.{unpacked-written}
 use Rattle.page_table.proofs.table.PageTable.free_page.Goals as goal
 
 pub returns : goal.returns

@@ -1,5 +1,5 @@
 use Rattle.std.proofs.Common.{arith}
-use Rattle.page_table.proofs.Runs.{unpacked-resized}
+use Rattle.page_table.proofs.RunSearch.{unpacked-resized}
 use Rattle.page_table.proofs.table.PageTable.new.Goals as goal
 
 pub returns-in-Ok : goal.returns-in-Ok

@@ -2,7 +2,7 @@ use Rattle.std.proofs.Common.{ap, ◌∙◌}
 use Rattle.heap_terms.specs.declared.pages.Entry.{Entry}
 use Rattle.heap_terms.specs.Regions.{with_fill}
 use Rattle.page_table.specs.Unpacked.{unpacked}
-use Rattle.page_table.proofs.Runs.{unpacked-written}
+use Rattle.page_table.proofs.RunSearch.{unpacked-written}
 use Rattle.page_table.proofs.table.PageTable.set_fill.Goals as goal
 
 pub returns : goal.returns

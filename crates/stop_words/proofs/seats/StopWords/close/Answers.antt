@@ -1,6 +1,6 @@
 use Rattle.std.proofs.Common.{◌≡◌, ◌≢◌, ◌<◌, ◌≤◌, ◌+◌, ◌++◌, false, set, option_to_list, get_or, length, take, sym, ap, ◌∙◌, subst, ⊎_elim, get_or-set_same, get_or-set_other, take_all, arith}
 use Rattle.std.specs.Mem.Slots.{slots_items, slots_filled, slots_len, slots_counts}
-use Rattle.stop_words.specs.Slots.{parcels_in}
+use Rattle.stop_words.specs.ParcelSlots.{parcels_in}
 use Rattle.atomic_table.specs.Table.{Final}
 use Rattle.stop_words.specs.Rule.{StopRule}
 use Rattle.stop_words.proofs.Basics.{same_or_not}

@@ -1,7 +1,7 @@
 use Rattle.std.proofs.Common.{◌≡◌, ℕ, ◌-◌, ◌<◌, ◌≤◌, false, get_or, take, vec_len, vec_capacity}
 use Rattle.std.specs.Mem.Slots.{slots_items, slots_filled, slots_len}
 use Rattle.std.specs.Mem.Slots.Ownership.{Filled}
-use Rattle.stop_words.specs.Slots.{parcels_in}
+use Rattle.stop_words.specs.ParcelSlots.{parcels_in}
 use Rattle.stop_words.proofs.seats.StopWords.close.Given as goal
 
 abbrev pub invariant-loop-slot : goal.invariant-loop-slot

@@ -1,5 +1,5 @@
 use Rattle.std.proofs.Common.{ap, ◌∙◌}
-use Rattle.stop_words.specs.Slots.{parcels_in}
+use Rattle.stop_words.specs.ParcelSlots.{parcels_in}
 use Rattle.stop_words.proofs.Seating.{parcels_back, begins_so}
 use Rattle.stop_words.proofs.seats.StopWords.filled.Goals as goal
 
