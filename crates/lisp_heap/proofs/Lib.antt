@@ -10,6 +10,7 @@ pub mod Soundness
 pub mod WordReading
 pub mod Plans
 pub mod Commands
+pub mod Rooms
 pub mod Nexts
 pub mod Stepping
 pub mod Agreeing

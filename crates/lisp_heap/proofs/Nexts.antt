@@ -1,8 +1,8 @@
 -- What a thread of a well-formed heap does next, and that what it builds has room in a parcel that agrees.
-use Rattle.std.proofs.Common.{◌≡◌, ℕ, ◌+◌, ◌*◌, ◌<◌, ◌≤◌, List, length, subst, ap, ◌∙◌, sym, refl, arith, Option, Some, None, Bool, true, false, option_map, inl, inr}
+use Rattle.std.proofs.Common.{◌≡◌, ℕ, ◌+◌, ◌*◌, ◌<◌, List, length, subst, ap, ◌∙◌, sym, refl, Option, Some, None, Bool, true, false, option_map, inl, inr}
 use Rattle.std.proofs.lemmas.Bool.{cases_lt}
 use Rattle.std.proofs.lemmas.List.{get_or_past}
-use Rattle.std.specs.Prelude.{if◌then◌else◌, ◌==◌, IsSomeAnd}
+use Rattle.std.specs.Prelude.{if◌then◌else◌, ◌==◌}
 use Rattle.heap_terms.specs.declared.commands.Command.{Command}
 use Rattle.heap_terms.specs.declared.kinds.Kind.TheVariants as kinds
 use Rattle.heap_terms.specs.declared.kinds.PageType.{PageType}
@@ -17,11 +17,10 @@ use Rattle.heap_terms.specs.Regions.{Wish, wish_of, has_room}
 use Rattle.heap_terms.specs.Valid.{IsValid}
 use Rattle.heap_terms.specs.WellFormed.{IsWellFormed, IsOpenPage}
 use Rattle.heap_laws.proofs.SoundHeaps.{open_page_used}
-use Rattle.heap_laws.proofs.Allocating.{room_page}
 use Rattle.heap_laws.proofs.ValidScripts.{script_wish}
-use Rattle.lisp_heap.specs.declared.parcels.RegionPlace.{RegionPlace}
 use Rattle.lisp_heap.specs.Agreement.{Agrees, CanBuild, small_out}
-use Rattle.lisp_heap.specs.ParcelView.{ParcelView, LeaseView, place_of, Fits, room_of}
+use Rattle.lisp_heap.specs.ParcelView.{ParcelView, LeaseView, place_of}
+use Rattle.lisp_heap.proofs.Rooms.{some_place, has_room_in}
 
 pub next_done : (p : Program) (a : NamedHeap) (t : ℕ) → (thread_at a t).ended ≡ true → nexts.Done ≡ next p a t
 unfolding next
@@ -57,40 +56,22 @@ pub lies_on : (r : LeaseView) (pages : List Entry) (page : ℕ) → r.first ≡ 
     r.next ≡ page_words * page + fill_of (entry_at pages page) → place_of r ≡ small_out pages page
 lies_on r pages page first one next_is = cc
 
--- the open region of conses in a parcel that agrees has as much room as the open page
-some_place : (o : Option LeaseView) (x : RegionPlace) → option_map place_of o ≡ Some x → (r : LeaseView) × (o ≡ Some r) × (place_of r ≡ x)
-some_place None x e = cc
-some_place (Some r) x e = (r, refl, cc)
-
+-- the open region of conses in a parcel that agrees lies on the open page
 pub cons_region : (a : NamedHeap) (q : ParcelView) (page : ℕ) → Agrees a q → (thread_at a q.owner).cons_page ≡ Some page →
     (r : LeaseView) × (q.cons ≡ Some r) × (place_of r ≡ small_out a.pages page)
 cons_region a q page agrees e =
     some_place q.cons (small_out a.pages page) (agrees.cons ∙ ap (option_map (small_out a.pages)) e)
 
-has_room_in : (o : Option LeaseView) (r : LeaseView) (page fill : ℕ) → o ≡ Some r → place_of r ≡ record { first = page; pages = 1; next = page_words * page + fill } → fill + 2 ≤ page_words →
-    IsSomeAnd o (Fits kinds.Cons 2)
-has_room_in None r page fill e place room = cc
-has_room_in (Some s) r page fill e place room =
-    let same : s ≡ r = cc in
-    let first : r.first ≡ page = ap (λ (x : RegionPlace). x.first) place in
-    let pages : r.pages ≡ 1 = ap (λ (x : RegionPlace). x.pages) place in
-    let next_is : r.next ≡ page_words * page + fill = ap (λ (x : RegionPlace). x.next) place in
-    let enough : 2 ≤ room_of r = omega (arith, first, pages, next_is, room) in
-    subst (λ (k : LeaseView). Fits kinds.Cons 2 k) (sym same) (enough, (λ large. cc))
-
-can_build_cons : (a : NamedHeap) (t : ℕ) (q : ParcelView) → q.owner ≡ t → Agrees a q → (b : Bool) → has_room a t kinds.Cons 2 ≡ b →
+can_build_cons : (p : Program) (a : NamedHeap) (t : ℕ) (q : ParcelView) → IsWellFormed p a → q.owner ≡ t → Agrees a q → (b : Bool) → has_room a t kinds.Cons 2 ≡ b →
     CanBuild (if b then nexts.Build kinds.Cons 2 0 else nexts.Open) q
-can_build_cons a t q owner agrees false e = tt
-can_build_cons a t q owner agrees true e =
-    let page = room_page a.pages (thread_at a t).cons_page 2 e in
-    let own : (thread_at a q.owner).cons_page ≡ Some (page.0) = ap (λ (n : ℕ). (thread_at a n).cons_page) owner ∙ page.1 in
-    let r = cons_region a q (page.0) agrees own in
-    (has_room_in q.cons (r.0) (page.0) (fill_of (entry_at a.pages (page.0))) r.1 r.2 page.2, (refl, refl))
+can_build_cons p a t q wf owner agrees false e = tt
+can_build_cons p a t q wf owner agrees true e =
+    (has_room_in p a q kinds.Cons 2 wf agrees (ap (λ (u : ℕ). has_room a u kinds.Cons 2) owner ∙ e), (refl, refl))
 
 -- what a thread builds next has room in its parcel
-pub can_build : (p : Program) (a : NamedHeap) (t : ℕ) (c : Command) (q : ParcelView) → IsValid p → command_at p a t ≡ Some c → q.owner ≡ t →
+pub can_build : (p : Program) (a : NamedHeap) (t : ℕ) (c : Command) (q : ParcelView) → IsWellFormed p a → IsValid p → command_at p a t ≡ Some c → q.owner ≡ t →
     Agrees a q → CanBuild (next_for a t (wish_of c)) q
-can_build p a t c q valid at owner agrees = elim (script_wish p t (thread_at a t).done c valid at) [
+can_build p a t c q wf valid at owner agrees = elim (script_wish p t (thread_at a t).done c valid at) [
   | inl nothing ↦ subst (λ (w : Wish). CanBuild (next_for a t w) q) (sym nothing) tt
-  | inr cons ↦ subst (λ (w : Wish). CanBuild (next_for a t w) q) (sym cons) (can_build_cons a t q owner agrees (has_room a t kinds.Cons 2) refl)
+  | inr cons ↦ subst (λ (w : Wish). CanBuild (next_for a t w) q) (sym cons) (can_build_cons p a t q wf owner agrees (has_room a t kinds.Cons 2) refl)
 ]

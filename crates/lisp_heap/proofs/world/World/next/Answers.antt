@@ -78,5 +78,5 @@ returns-in-Some-clause-room c = λ q owner agrees. (
     subst (λ (w : View). command_at w.program (heap_of w) c.args.t ≡ Some c.in-Some.command) (sym c.self.view_is) (sym c.command.ensures ∙ c.in-Some.is) in
     let built : Agrees (heap_of c.args.self.now) q → CanBuild (next_for (heap_of c.args.self.now) c.args.t (wish_of c.in-Some.command)) q =
     subst (λ (w : View). Agrees (heap_of w) q → CanBuild (next_for (heap_of w) c.args.t (wish_of c.in-Some.command)) q) c.self.view_is
-    (can_build c.self.inside.program (heap c.self.inside) c.args.t c.in-Some.command q c.self.invariant.valid at owner) in
+    (can_build c.self.inside.program (heap c.self.inside) c.args.t c.in-Some.command q (well_formed c.self.inside c.self.invariant) c.self.invariant.valid at owner) in
     subst (λ (n : Next). CanBuild n q) (sym (c.next_for.ensures c.args.t state_there)) (built agrees))
