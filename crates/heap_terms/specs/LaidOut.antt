@@ -2,7 +2,7 @@
 -- after another. What begins at an index is told by its word alone: a filler, a header, or a value, with which a cons
 -- begins. That a page is walked by its words is SBCL's; the words are this project's own. Left free is what stands in
 -- an object behind its first word, which lengths of payload a kind has, and what stands behind the fill.
-use Rattle.std.specs.Prelude.{◌≡◌, ◌≢◌, ℕ, ◌+◌, ◌*◌, ◌/◌, ◌%◌, ◌<◌, ◌≤◌, ◌==◌, List, [], ◌∷◌, All, AllPairs, Contains, Option, Some, if◌then◌else◌, slice_index}
+use Rattle.std.specs.Prelude.{◌≡◌, ◌≢◌, ℕ, ◌+◌, ◌*◌, ◌/◌, ◌%◌, ◌<◌, ◌≤◌, ◌==◌, List, [], ◌∷◌, All, AllPairs, Contains, Some, if◌then◌else◌, slice_index}
 use Rattle.heap_terms.specs.declared.kinds.Kind.{Kind}
 use Rattle.heap_terms.specs.declared.kinds.Kind.TheVariants as kinds
 use Rattle.heap_terms.specs.declared.limits.TheConstants.{MOST_ELEMENTS}

@@ -35,4 +35,8 @@ pub mod Fields
 pub mod Grammar
 pub mod ScriptReading
 pub mod WordMachine
+pub mod Phases
+pub mod MachineTurns
+pub mod Runs
+pub mod WordText
 pub mod Schedules

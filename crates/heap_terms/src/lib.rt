@@ -12,6 +12,7 @@ pub mod kinds;
 pub mod limits;
 pub mod lists;
 pub mod pages;
+pub mod phases;
 pub mod programs;
 pub mod steps;
 
@@ -30,5 +31,6 @@ pub use limits::{
 };
 pub use lists::{Ids, Seq};
 pub use pages::{Entry, Next};
+pub use phases::Phase;
 pub use programs::{Program, Scripts, Turns};
 pub use steps::{Owned, ReplayLine, StepAnswer, WordLine, WordStep};

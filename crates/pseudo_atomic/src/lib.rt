@@ -3,7 +3,7 @@
 //! There is one word for the turn to collect, and one word for each thread. A thread does one step
 //! at a time; a step reads one word, changes at most that one, and has an answer. The sections are
 //! after SBCL's pseudo-atomic sections; that a stop waits for the end of a section, the bits, the
-//! steps and the phases are this project's own.
+//! steps and the phases, which `heap_terms` has, are this project's own.
 #![tactic(auto)]
 
 ghost use Rattle.std.specs.Prelude.{◌≡◌, ◌≤◌, ◌<◌, ◌^◌, ◌∷◌, length, replicate, suc, IfOk, MatchOption};
@@ -14,7 +14,7 @@ pub mod laws;
 mod tests;
 
 use heap_terms::{Memory, Seq};
-pub use heap_terms::{StepAnswer, WordStep};
+pub use heap_terms::{Phase, StepAnswer, WordStep};
 use std::alloc::Global;
 
 /// The bit of a thread that is inside a section.
@@ -38,42 +38,6 @@ pub struct StopState {
     pub turn: u64,
     /// The word of each thread.
     pub words: Words,
-}
-
-/// What a thread is at. It decides which step the thread does next.
-#[derive(Clone, Copy, Debug, PartialEq, Eq)]
-pub enum Phase {
-    /// Waits until it may resume. A thread that has not begun is parked.
-    Parked,
-    /// Runs, and is in no section.
-    Outside,
-    /// Is inside a section, in which no collection may happen.
-    Inside,
-    /// Is about to leave its section.
-    Leaving,
-    /// Is about to park.
-    Parking,
-    /// Holds the turn, and is about to post a stop to thread `next`.
-    Posting {
-        /// The lowest other thread to which no stop was posted yet.
-        next: u32,
-    },
-    /// Holds the turn, and is about to look whether thread `next` has parked.
-    Looking {
-        /// The lowest other thread that was not yet seen parked.
-        next: u32,
-    },
-    /// Holds the turn while all others are parked, and is about to collect.
-    Collecting,
-    /// Holds the turn, and is about to take back the stop of thread `next`.
-    Releasing {
-        /// The lowest other thread whose stop was not yet taken back.
-        next: u32,
-    },
-    /// Is about to give the turn back.
-    Returning,
-    /// Has parked for the last time.
-    Ended,
 }
 
 /// The words at the start, a word for each of the threads.
