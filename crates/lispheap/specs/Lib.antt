@@ -1,4 +1,3 @@
-pub mod Buffers
 pub mod Texts
 pub mod Journals
 pub mod Answers

@@ -2,7 +2,6 @@
 #![tactic(auto)]
 
 mod faults;
-mod journal;
 mod still;
 #[cfg(test)]
 mod tests;

@@ -9,9 +9,9 @@ ghost use Rattle.lispheap.specs.Journals.{IsJournal, IsJournalOf};
 ghost use Rattle.lispheap.specs.Texts.{status_of};
 
 use crate::faults::{Fault, put_text, say};
-use crate::journal::journal_of;
 use heap_io::{ReadFault, Sink, Source, read_all};
 use heap_terms::{MOST_BYTES, Memory, Program};
+use journal_text::print;
 use replay_core::run_history;
 use script_text::{ScriptFault, parse};
 use std::alloc::Global;
@@ -180,5 +180,5 @@ fn run(alloc: Global, program: Program) -> Result<Vec<u8>, Memory>
     ensures { IfOk result (λ text. IsJournalOf program text.items) }
 {
     let world = run_history(alloc, program)?;
-    journal_of(alloc, world.history())
+    print(alloc, world.history())
 }

@@ -1,0 +1,103 @@
+//! The buffer to which the journal is appended. A line reserves its room at its start; what is
+//! appended to it then takes no memory and makes no test.
+
+ghost use Rattle.std.specs.Prelude.{◌≡◌, ◌+◌, ◌≤◌, [], ◌++◌, length, OnOk, IfOk};
+
+use std::alloc::{AllocError, Global};
+use std::marker::Model;
+
+/// A text that is being made. The bytes behind its end are there already, all 0, so that a piece is
+/// written over them as a whole.
+#[derive(Drop)]
+pub(super) struct Text {
+    bytes: Vec<u8>,
+    end: usize,
+}
+
+impl Model for Text {
+    ghost use Rattle.std.specs.Prelude.{◌≤◌, ◌-◌, take, vec_len};
+    ghost use Rattle.journal_text.specs.Buffers.{TextView};
+
+    ghost Value = { TextView };
+
+    ghost view = { λ t. record { text = take t.end t.bytes.items; room = vec_len t.bytes - t.end } };
+
+    ghost invariant = { λ t. t.end ≤ vec_len t.bytes };
+}
+
+/// How many bytes more than a line needs are made ready at once.
+const AHEAD: usize = 1024;
+
+impl Text {
+    /// The empty text, in memory for so many bytes.
+    pub(super) fn with_capacity(alloc: Global, capacity: usize) -> Result<Text, AllocError>
+        ensures { IfOk result (λ text. text.text ≡ []) }
+    {
+        let bytes = Vec::with_capacity(alloc, capacity)?;
+        Ok(Text { bytes, end: 0 })
+    }
+
+    /// Makes room for so many bytes more.
+    #[inline(always)]
+    pub(super) fn reserve(&mut self, more: usize) -> Result<(), AllocError>
+        ensures room { OnOk result (more ≤ self.new.room) }
+        ensures text { OnOk result (self.new.text ≡ self.old.text) }
+    {
+        if self.bytes.len() - self.end < more {
+            self.grow(more)?;
+        }
+        Ok(())
+    }
+
+    /// The same, where there is not so much room.
+    #[cold]
+    #[inline(never)]
+    fn grow(&mut self, more: usize) -> Result<(), AllocError>
+        ensures room { OnOk result (more ≤ self.new.room) }
+        ensures text { OnOk result (self.new.text ≡ self.old.text) }
+    {
+        let len = self.end.saturating_add(more).saturating_add(AHEAD);
+        self.bytes.resize(len, 0)
+    }
+
+    /// Appends a few bytes for which there is room.
+    #[inline(always)]
+    pub(super) fn push<const N: usize>(&mut self, piece: &[u8; N])
+        requires { N ≤ self.old.room }
+        ensures text { self.new.text ≡ self.old.text ++ piece.now }
+        ensures room { self.old.room ≤ self.new.room + N }
+    {
+        self.push_slice(piece.as_slice());
+    }
+
+    /// Appends bytes for which there is room.
+    #[inline(always)]
+    pub(super) fn push_slice(&mut self, piece: &[u8])
+        requires { length piece.now ≤ self.old.room }
+        ensures text { self.new.text ≡ self.old.text ++ piece.now }
+        ensures room { self.old.room ≤ self.new.room + length piece.now }
+    {
+        let start = self.end;
+        let end = start + piece.len();
+        self.bytes[start..end].copy_from_slice(piece);
+        self.end = end;
+    }
+
+    /// Appends bytes.
+    pub(super) fn append(&mut self, piece: &[u8]) -> Result<(), AllocError>
+        ensures { OnOk result (self.new.text ≡ self.old.text ++ piece.now) }
+    {
+        self.reserve(piece.len())?;
+        self.push_slice(piece);
+        Ok(())
+    }
+
+    /// The text's bytes.
+    pub(super) fn into_bytes(self) -> Vec<u8>
+        ensures { result.items ≡ self.text }
+    {
+        let Text { mut bytes, end } = self;
+        bytes.truncate(end);
+        bytes
+    }
+}
