@@ -33,6 +33,7 @@ pub mod PageRuns
 pub mod Fresh
 pub mod Fields
 pub mod Grammar
+pub mod ScriptPrinting
 pub mod ScriptReading
 pub mod WordMachine
 pub mod Phases

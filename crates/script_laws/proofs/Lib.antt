@@ -1,0 +1,5 @@
+mod Lines
+mod FieldTexts
+mod Commands
+mod Runs
+mod Scripts
