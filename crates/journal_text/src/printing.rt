@@ -6,24 +6,17 @@ ghost use Rattle.std.specs.Prelude.{◌≡◌, ◌+◌, ◌≤◌, ◌++◌, OnO
 ghost use Rattle.heap_terms.specs.Text.{event_text, journal_text, line, field, number_field, type_text};
 
 mod answers;
-mod buffer;
-mod commands;
-mod fields;
-mod numbers;
 mod pages;
 mod passes;
 mod room;
 
 use answers::push_answer_line;
-use buffer::Text;
-use commands::push_command;
-use fields::push;
 use heap_terms::{Event, Memory, PageType};
-use numbers::{push_number, push_number_field};
 use pages::push_type;
 use passes::push_passes;
 use room::{DONE_LINE, EVENT_LINE, OPENED_LINE};
 use std::alloc::{AllocError, Global};
+use text_fields::{Text, push, push_command, push_number, push_number_field};
 
 /// How many bytes a line has in the mean. It is a guess: where it is too low, the buffer grows.
 const MEAN_LINE: usize = 32;

@@ -3,13 +3,14 @@
 ghost use Rattle.std.specs.Prelude.{◌≡◌, ◌+◌, ◌≤◌, ◌++◌, OnOk, codes, flat_map};
 ghost use Rattle.heap_terms.specs.Text.{line, number_field, field, answer_text, refusal_text, name_text, index_text, value_text, word_text, page_text};
 
-use super::buffer::Text;
-use super::fields::{push, push_index_field, push_numbers, push_value, push_word};
-use super::numbers::{push_number, push_number_field};
 use super::pages::push_page;
-use super::room::{ANSWER_LINE, ARROW, NUMBER_FIELD, OBJECT, SIZES, VALUE_FIELD, WORD};
+use super::room::{ANSWER_LINE, ARROW, OBJECT, SIZES};
 use heap_terms::{Answer, PageView, Refusal, Value};
 use std::alloc::AllocError;
+use text_fields::{
+    NUMBER_FIELD, Text, VALUE_FIELD, WORD, push, push_index_field, push_number, push_number_field,
+    push_numbers, push_value, push_word,
+};
 
 /// Appends ` -> ` and an answer, and ends the line.
 pub(super) fn push_answer_line(out: &mut Text, answer: &Answer) -> Result<(), AllocError>

@@ -4,12 +4,10 @@ ghost use Rattle.std.specs.Prelude.{◌≡◌, ◌+◌, ◌≤◌, ◌++◌, OnO
 ghost use Rattle.heap_terms.specs.Text.{number_field, field, type_text, item_text, page_text, name_text, index_text};
 ghost use Rattle.heap_terms.specs.declared.answers.Item.{Item as PageItem};
 
-use super::buffer::Text;
-use super::fields::{push, push_index, push_name_field};
-use super::numbers::{push_number, push_number_field};
 use super::room::{GENERATION, ITEM, PAGE, TYPE};
 use heap_terms::{Item, PageType, PageView};
 use std::alloc::AllocError;
+use text_fields::{Text, push, push_index, push_name_field, push_number, push_number_field};
 
 /// Appends a page as the command `page` shows it.
 pub(super) fn push_page(out: &mut Text, view: &PageView) -> Result<(), AllocError>

@@ -6,12 +6,12 @@ ghost use Rattle.heap_terms.specs.declared.events.Cull.{Cull as CullRecord};
 ghost use Rattle.heap_terms.specs.declared.events.PinAt.{PinAt as PinRecord};
 ghost use Rattle.heap_terms.specs.declared.events.Placing.{Placing as MoveRecord};
 
-use super::buffer::Text;
-use super::fields::{push, push_index_field, push_name_field, push_value};
-use super::numbers::push_number_field;
-use super::room::{BREAK_LINE, CULL_LINE, MOVE_LINE, NUMBER_FIELD, OBJECT, PIN_LINE};
+use super::room::{BREAK_LINE, CULL_LINE, MOVE_LINE, OBJECT, PIN_LINE};
 use heap_terms::{Cull, PassRecord, PinAt, Placing};
 use std::alloc::AllocError;
+use text_fields::{
+    NUMBER_FIELD, Text, push, push_index_field, push_name_field, push_number_field, push_value,
+};
 
 /// Appends the lines of passes.
 pub(super) fn push_passes(out: &mut Text, passes: &[PassRecord]) -> Result<(), AllocError>

@@ -1,34 +1,6 @@
-//! How many bytes the parts of a line have at most. A field has the space before it with it.
+//! How many bytes the lines of a journal and their own parts have at most. A field has the space before it with it.
 
-/// A number.
-pub(super) const NUMBER: usize = 20;
-
-/// A number as a field.
-pub(super) const NUMBER_FIELD: usize = 1 + NUMBER;
-
-/// A number of 8 bits.
-pub(super) const SMALL_NUMBER: usize = 3;
-
-/// A cell as a field: its letter and a number of 8 bits.
-pub(super) const CELL_FIELD: usize = 1 + 1 + SMALL_NUMBER;
-
-/// A raw word: `0x` and 16 digits.
-pub(super) const WORD: usize = 2 + 16;
-
-/// A raw word as a field.
-pub(super) const WORD_FIELD: usize = 1 + WORD;
-
-/// The name of an object as a field: `#` and a number.
-pub(super) const NAME_FIELD: usize = 1 + 1 + NUMBER;
-
-/// An index: `@` and a number.
-pub(super) const INDEX: usize = 1 + NUMBER;
-
-/// An index as a field.
-pub(super) const INDEX_FIELD: usize = 1 + INDEX;
-
-/// A value as a field, the longest of which is the name of an object.
-pub(super) const VALUE_FIELD: usize = NAME_FIELD;
+use text_fields::{COMMAND, INDEX, INDEX_FIELD, NAME_FIELD, NUMBER, NUMBER_FIELD, VALUE_FIELD};
 
 /// A name and an index, each as a field.
 pub(super) const OBJECT: usize = NAME_FIELD + INDEX_FIELD;
@@ -44,12 +16,6 @@ pub(super) const PAGE: usize = GENERATION + 6 + NUMBER_FIELD + NAME_FIELD + INDE
 
 /// An item of a page: a name or a count as a field, and an index.
 pub(super) const ITEM: usize = NAME_FIELD + INDEX;
-
-/// The weakness of a table as a field: `key-and-value`.
-pub(super) const WEAKNESS_FIELD: usize = 1 + 13;
-
-/// A command as a field, the longest of which is `words` with a cell, a number and a raw word.
-pub(super) const COMMAND: usize = 6 + CELL_FIELD + NUMBER_FIELD + WORD_FIELD;
 
 /// ` -> ` before an answer.
 pub(super) const ARROW: usize = 4;

@@ -1,7 +1,7 @@
 use Rattle.std.proofs.Common.{◌-◌, ◌/◌, ◌++◌, ap, sym, ◌∙◌, arith, length-set}
 use Rattle.heap_terms.specs.Text.{hex_digits}
-use Rattle.journal_text.proofs.Digits.{last_digit, no_digit, first_place}
-use Rattle.journal_text.proofs.printing.fields.digits_of.Goals as goal
+use Rattle.text_fields.proofs.Digits.{last_digit, no_digit, first_place}
+use Rattle.text_fields.proofs.fields.digits_of.Goals as goal
 
 pub loop-k-preserved : goal.loop-k-preserved
 loop-k-preserved c =

@@ -3,7 +3,7 @@ use Rattle.std.proofs.Common.{◌≡◌, ℕ, suc, zero, ◌+◌, ◌*◌, ◌/�
 use Rattle.std.specs.Fmt.{decimal}
 use lib.Ieee.Fits.{and_l, and_r}
 use Rattle.std.proofs.lemmas.Fmt.{decimal_digit, decimal_step}
-use Rattle.journal_text.specs.declared.printing.numbers.TheConstants.{PAIRS}
+use Rattle.text_fields.specs.declared.numbers.TheConstants.{PAIRS}
 
 -- ---- the table of two digits
 

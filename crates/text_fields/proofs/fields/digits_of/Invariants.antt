@@ -1,6 +1,6 @@
 use Rattle.std.proofs.Common.{◌≡◌, ◌≤◌, ◌++◌, drop, length}
 use Rattle.heap_terms.specs.Text.{hex_digits}
-use Rattle.journal_text.proofs.printing.fields.digits_of.Given as goal
+use Rattle.text_fields.proofs.fields.digits_of.Given as goal
 
 abbrev pub invariant-loop-k : goal.invariant-loop-k
 invariant-loop-k l = record {

@@ -4,9 +4,9 @@ ghost use Rattle.std.specs.Prelude.{◌≡◌, ◌+◌, ◌/◌, ◌%◌, ◌<�
 ghost use Rattle.std.specs.Fmt.{signed_decimal};
 ghost use Rattle.heap_terms.specs.Text.{cell_text, cell_field, raw_field, number_field, field, hex_digit, hex_digits, word_text, name_text, index_text, value_text};
 
-use super::buffer::Text;
-use super::numbers::{push_number, push_number_field, push_signed_field, push_small};
-use super::room::{
+use crate::buffer::Text;
+use crate::numbers::{push_number, push_number_field, push_signed_field, push_small};
+use crate::room::{
     CELL_FIELD, INDEX, INDEX_FIELD, NAME_FIELD, NUMBER, NUMBER_FIELD, VALUE_FIELD, WORD, WORD_FIELD,
 };
 use heap_terms::{Cell, Raw, Value};
@@ -14,7 +14,7 @@ use std::alloc::AllocError;
 
 /// Appends a few bytes for which there is room.
 #[inline(always)]
-pub(super) fn push<const N: usize>(out: &mut Text, bytes: &[u8; N])
+pub fn push<const N: usize>(out: &mut Text, bytes: &[u8; N])
     requires { N ≤ out.old.room }
     ensures text { out.new.text ≡ out.old.text ++ bytes.now }
     ensures room { out.old.room ≤ out.new.room + N }
@@ -54,7 +54,7 @@ fn push_lettered(out: &mut Text, letter: u8, i: u8)
 
 /// Appends a cell as a field.
 #[inline]
-pub(super) fn push_cell(out: &mut Text, c: Cell)
+pub fn push_cell(out: &mut Text, c: Cell)
     requires { CELL_FIELD ≤ out.old.room }
     ensures text { out.new.text ≡ out.old.text ++ cell_field c }
     ensures room { out.old.room ≤ out.new.room + CELL_FIELD }
@@ -64,7 +64,7 @@ pub(super) fn push_cell(out: &mut Text, c: Cell)
 }
 
 /// Appends a raw cell as a field.
-pub(super) fn push_raw(out: &mut Text, r: Raw)
+pub fn push_raw(out: &mut Text, r: Raw)
     requires { CELL_FIELD ≤ out.old.room }
     ensures text { out.new.text ≡ out.old.text ++ raw_field r }
     ensures room { out.old.room ≤ out.new.room + CELL_FIELD }
@@ -82,7 +82,7 @@ fn digit(d: u8) -> u8
 }
 
 /// Appends a raw word: `0x` and 16 hexadecimal digits.
-pub(super) fn push_word(out: &mut Text, w: u64)
+pub fn push_word(out: &mut Text, w: u64)
     requires { WORD ≤ out.old.room }
     ensures text { out.new.text ≡ out.old.text ++ word_text w }
     ensures room { out.old.room ≤ out.new.room + WORD }
@@ -108,7 +108,7 @@ fn digits_of(w: u64) -> [u8; 16]
 }
 
 /// Appends a raw word as a field.
-pub(super) fn push_word_field(out: &mut Text, w: u64)
+pub fn push_word_field(out: &mut Text, w: u64)
     requires { WORD_FIELD ≤ out.old.room }
     ensures text { out.new.text ≡ out.old.text ++ field (word_text w) }
     ensures room { out.old.room ≤ out.new.room + WORD_FIELD }
@@ -118,7 +118,7 @@ pub(super) fn push_word_field(out: &mut Text, w: u64)
 }
 
 /// Appends the name of an object as a field.
-pub(super) fn push_name_field(out: &mut Text, name: u32)
+pub fn push_name_field(out: &mut Text, name: u32)
     requires { NAME_FIELD ≤ out.old.room }
     ensures text { out.new.text ≡ out.old.text ++ field (name_text name) }
     ensures room { out.old.room ≤ out.new.room + NAME_FIELD }
@@ -128,7 +128,7 @@ pub(super) fn push_name_field(out: &mut Text, name: u32)
 }
 
 /// Appends an index.
-pub(super) fn push_index(out: &mut Text, index: u32)
+pub fn push_index(out: &mut Text, index: u32)
     requires { INDEX ≤ out.old.room }
     ensures text { out.new.text ≡ out.old.text ++ index_text index }
     ensures room { out.old.room ≤ out.new.room + INDEX }
@@ -138,7 +138,7 @@ pub(super) fn push_index(out: &mut Text, index: u32)
 }
 
 /// Appends an index as a field.
-pub(super) fn push_index_field(out: &mut Text, index: u32)
+pub fn push_index_field(out: &mut Text, index: u32)
     requires { INDEX_FIELD ≤ out.old.room }
     ensures text { out.new.text ≡ out.old.text ++ field (index_text index) }
     ensures room { out.old.room ≤ out.new.room + INDEX_FIELD }
@@ -148,7 +148,7 @@ pub(super) fn push_index_field(out: &mut Text, index: u32)
 }
 
 /// Appends a value as a field.
-pub(super) fn push_value(out: &mut Text, v: Value)
+pub fn push_value(out: &mut Text, v: Value)
     requires { VALUE_FIELD ≤ out.old.room }
     ensures text { out.new.text ≡ out.old.text ++ field (value_text v) }
     ensures room { out.old.room ≤ out.new.room + VALUE_FIELD }
@@ -162,7 +162,7 @@ pub(super) fn push_value(out: &mut Text, v: Value)
 }
 
 /// Appends numbers, each as a field. Their room is reserved one by one.
-pub(super) fn push_numbers(out: &mut Text, numbers: &[u32]) -> Result<(), AllocError>
+pub fn push_numbers(out: &mut Text, numbers: &[u32]) -> Result<(), AllocError>
     ensures { OnOk result (out.new.text ≡ out.old.text ++ flat_map number_field numbers.now) }
 {
     for n in numbers {

@@ -4,9 +4,9 @@ ghost use Rattle.std.specs.Prelude.{◌≡◌, ◌+◌, ◌/◌, ◌%◌, ◌<�
 ghost use Rattle.std.specs.Fmt.{signed_decimal};
 ghost use Rattle.heap_terms.specs.Text.{number_field, field};
 
-use super::buffer::Text;
-use super::fields::push;
-use super::room::{NUMBER, NUMBER_FIELD, SMALL_NUMBER};
+use crate::buffer::Text;
+use crate::fields::push;
+use crate::room::{NUMBER, NUMBER_FIELD, SMALL_NUMBER};
 use itoa::Buffer;
 
 /// The two digits of each number below 100.
@@ -129,7 +129,7 @@ fn push_digits(out: &mut Text, n: u64)
 /// Appends a number.
 #[inline(always)]
 #[tactic(auto, using(std::proofs::lemmas::Fmt::decimal_digit))]
-pub(super) fn push_number(out: &mut Text, n: u64)
+pub fn push_number(out: &mut Text, n: u64)
     requires { NUMBER ≤ out.old.room }
     ensures text { out.new.text ≡ out.old.text ++ decimal n }
     ensures room { out.old.room ≤ out.new.room + NUMBER }
@@ -144,7 +144,7 @@ pub(super) fn push_number(out: &mut Text, n: u64)
 /// Appends a number of 8 bits.
 #[inline(never)]
 #[tactic(auto, using(std::proofs::lemmas::Fmt::decimal_digit))]
-pub(super) fn push_small(out: &mut Text, n: u8)
+pub fn push_small(out: &mut Text, n: u8)
     requires { SMALL_NUMBER ≤ out.old.room }
     ensures text { out.new.text ≡ out.old.text ++ decimal n }
     ensures room { out.old.room ≤ out.new.room + SMALL_NUMBER }
@@ -161,7 +161,7 @@ pub(super) fn push_small(out: &mut Text, n: u8)
 /// Appends a number as a field.
 #[inline(always)]
 #[tactic(auto, using(std::proofs::lemmas::Fmt::decimal_digit))]
-pub(super) fn push_number_field(out: &mut Text, n: u64)
+pub fn push_number_field(out: &mut Text, n: u64)
     requires { NUMBER_FIELD ≤ out.old.room }
     ensures text { out.new.text ≡ out.old.text ++ number_field n }
     ensures room { out.old.room ≤ out.new.room + NUMBER_FIELD }
@@ -175,7 +175,7 @@ pub(super) fn push_number_field(out: &mut Text, n: u64)
 }
 
 /// Appends a signed number.
-pub(super) fn push_signed(out: &mut Text, n: i64)
+pub fn push_signed(out: &mut Text, n: i64)
     requires { NUMBER ≤ out.old.room }
     ensures text { out.new.text ≡ out.old.text ++ signed_decimal n }
     ensures room { out.old.room ≤ out.new.room + NUMBER }
@@ -189,7 +189,7 @@ pub(super) fn push_signed(out: &mut Text, n: i64)
 }
 
 /// Appends a signed number as a field.
-pub(super) fn push_signed_field(out: &mut Text, n: i64)
+pub fn push_signed_field(out: &mut Text, n: i64)
     requires { NUMBER_FIELD ≤ out.old.room }
     ensures text { out.new.text ≡ out.old.text ++ field (signed_decimal n) }
     ensures room { out.old.room ≤ out.new.room + NUMBER_FIELD }

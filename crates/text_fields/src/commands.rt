@@ -4,15 +4,15 @@ ghost use Rattle.std.specs.Prelude.{◌≡◌, ◌+◌, ◌*◌, ◌≤◌, ◌+
 ghost use Rattle.std.specs.Fmt.{signed_decimal};
 ghost use Rattle.heap_terms.specs.Text.{cell_field, raw_field, number_field, field, word_text, weakness_text, command_text};
 
-use super::buffer::Text;
-use super::fields::{push, push_cell, push_raw, push_word_field};
-use super::numbers::{push_number_field, push_signed_field};
-use super::room::{CELL_FIELD, COMMAND, NUMBER_FIELD, WEAKNESS_FIELD, WORD_FIELD};
+use crate::buffer::Text;
+use crate::fields::{push, push_cell, push_raw, push_word_field};
+use crate::numbers::{push_number_field, push_signed_field};
+use crate::room::{CELL_FIELD, COMMAND, NUMBER_FIELD, WEAKNESS_FIELD, WORD_FIELD};
 use heap_terms::{Cell, Command, Raw, Weakness};
 
 /// Appends a command as a field.
 #[inline(always)]
-pub(super) fn push_command(out: &mut Text, command: &Command)
+pub fn push_command(out: &mut Text, command: &Command)
     requires { COMMAND ≤ out.old.room }
     ensures text { out.new.text ≡ out.old.text ++ field (command_text command.now) }
     ensures room { out.old.room ≤ out.new.room + COMMAND }

@@ -9,14 +9,14 @@ use std::marker::Model;
 /// A text that is being made. The bytes behind its end are there already, all 0, so that a piece is
 /// written over them as a whole.
 #[derive(Drop)]
-pub(super) struct Text {
+pub struct Text {
     bytes: Vec<u8>,
     end: usize,
 }
 
 impl Model for Text {
     ghost use Rattle.std.specs.Prelude.{◌≤◌, ◌-◌, take, vec_len};
-    ghost use Rattle.journal_text.specs.Buffers.{TextView};
+    ghost use Rattle.text_fields.specs.Buffers.{TextView};
 
     ghost Value = { TextView };
 
@@ -30,7 +30,7 @@ const AHEAD: usize = 1024;
 
 impl Text {
     /// The empty text, in memory for so many bytes.
-    pub(super) fn with_capacity(alloc: Global, capacity: usize) -> Result<Text, AllocError>
+    pub fn with_capacity(alloc: Global, capacity: usize) -> Result<Text, AllocError>
         ensures { IfOk result (λ text. text.text ≡ []) }
     {
         let bytes = Vec::with_capacity(alloc, capacity)?;
@@ -39,7 +39,7 @@ impl Text {
 
     /// Makes room for so many bytes more.
     #[inline(always)]
-    pub(super) fn reserve(&mut self, more: usize) -> Result<(), AllocError>
+    pub fn reserve(&mut self, more: usize) -> Result<(), AllocError>
         ensures room { OnOk result (more ≤ self.new.room) }
         ensures text { OnOk result (self.new.text ≡ self.old.text) }
     {
@@ -62,7 +62,7 @@ impl Text {
 
     /// Appends a few bytes for which there is room.
     #[inline(always)]
-    pub(super) fn push<const N: usize>(&mut self, piece: &[u8; N])
+    pub fn push<const N: usize>(&mut self, piece: &[u8; N])
         requires { N ≤ self.old.room }
         ensures text { self.new.text ≡ self.old.text ++ piece.now }
         ensures room { self.old.room ≤ self.new.room + N }
@@ -72,7 +72,7 @@ impl Text {
 
     /// Appends bytes for which there is room.
     #[inline(always)]
-    pub(super) fn push_slice(&mut self, piece: &[u8])
+    pub fn push_slice(&mut self, piece: &[u8])
         requires { length piece.now ≤ self.old.room }
         ensures text { self.new.text ≡ self.old.text ++ piece.now }
         ensures room { self.old.room ≤ self.new.room + length piece.now }
@@ -84,7 +84,7 @@ impl Text {
     }
 
     /// Appends bytes.
-    pub(super) fn append(&mut self, piece: &[u8]) -> Result<(), AllocError>
+    pub fn append(&mut self, piece: &[u8]) -> Result<(), AllocError>
         ensures { OnOk result (self.new.text ≡ self.old.text ++ piece.now) }
     {
         self.reserve(piece.len())?;
@@ -93,7 +93,7 @@ impl Text {
     }
 
     /// The text's bytes.
-    pub(super) fn into_bytes(self) -> Vec<u8>
+    pub fn into_bytes(self) -> Vec<u8>
         ensures { result.items ≡ self.text }
     {
         let Text { mut bytes, end } = self;
