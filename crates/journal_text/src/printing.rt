@@ -58,6 +58,7 @@ fn push_event(out: &mut Text, event: &Event) -> Result<(), AllocError>
             answer,
         } => {
             push_number(out, *thread as u64);
+            push(out, b" ");
             push_command(out, command);
             push_answer_line(out, answer)
         }

@@ -12,3 +12,4 @@ pub mod Validity
 pub mod Spelled
 pub mod Numbered
 pub mod Plain
+mod Printed

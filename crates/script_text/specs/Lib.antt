@@ -6,3 +6,4 @@ pub mod Commands
 pub mod ReaderAnswers
 pub mod Reader
 pub mod Numbers
+pub mod Runs

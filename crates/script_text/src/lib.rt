@@ -1,4 +1,5 @@
-//! Scripts as text: reading one, with the exact line and the exact reason where it is refused.
+//! Scripts as text: reading one, with the exact line and the exact reason where it is refused, and
+//! printing the program of one.
 #![tactic(auto)]
 
 mod cells;
@@ -7,6 +8,7 @@ mod cursor;
 mod faults;
 mod fields;
 mod numbers;
+mod printing;
 mod reader;
 mod schedules;
 #[cfg(test)]
@@ -23,6 +25,7 @@ use crate::cursor::Cursor;
 use crate::reader::Reader;
 pub use faults::ScriptFault;
 use heap_terms::{Program, Why};
+pub use printing::print;
 use std::alloc::Global;
 
 /// The program that a script says, or why it is refused: the first line that is bad decides, and on

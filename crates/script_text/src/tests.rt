@@ -286,3 +286,20 @@ fn a_script_is_read_as_its_program(rt: HostRuntime) -> Result<(), Fail> {
     }
     Ok(())
 }
+
+#[test]
+fn a_script_is_printed_in_its_usual_spelling(rt: HostRuntime) -> Result<(), Fail> {
+    let text =
+        b"; a script\r\nlispheap 01\nheap  1024\nthread\n\tfix s0 -0 \nthread\ncons b10 s15 g1\nschedule 1 0*3\nschedule 00 1*65535 1\nend";
+    let program = parse(rt.alloc(), text.as_slice())
+        .ok()
+        .ok_or("the text is a script")?;
+    let printed = print(rt.alloc(), &program)
+        .ok()
+        .ok_or("there is memory for it")?;
+    assert_eq!(rt;
+        printed.as_slice(),
+        b"lispheap 1\nheap 1024\nthread\nfix s0 0\nthread\ncons b10 s15 g1\nschedule 1 0*4 1*65535 1\nend\n".as_slice()
+    );
+    Ok(())
+}

@@ -33,5 +33,5 @@ pub const VALUE_FIELD: usize = NAME_FIELD;
 /// The weakness of a table as a field: `key-and-value`.
 pub const WEAKNESS_FIELD: usize = 1 + 13;
 
-/// A command as a field, the longest of which is `words` with a cell, a number and a raw word.
-pub const COMMAND: usize = 6 + CELL_FIELD + NUMBER_FIELD + WORD_FIELD;
+/// A command, the longest of which is `words` with a cell, a number and a raw word.
+pub const COMMAND: usize = 5 + CELL_FIELD + NUMBER_FIELD + WORD_FIELD;

@@ -28,7 +28,7 @@ pub(super) const SIZES: usize = 9 + 4 + 2 * NUMBER_FIELD;
 pub(super) const ANSWER_LINE: usize = ARROW + SIZES + 4 + NUMBER_FIELD + 1;
 
 /// The line of a command with its answer: the longest line of an event.
-pub(super) const EVENT_LINE: usize = NUMBER + COMMAND + ANSWER_LINE;
+pub(super) const EVENT_LINE: usize = NUMBER + 1 + COMMAND + ANSWER_LINE;
 
 /// The line of an opened region: a number, ` open `, a type and two numbers.
 pub(super) const OPENED_LINE: usize = NUMBER + 6 + TYPE + 2 * NUMBER_FIELD + 1;
