@@ -2,6 +2,7 @@
 pub mod AtPlaces
 pub mod ValidScripts
 pub mod NextEvents
+pub mod EventSteps
 pub mod SoundHeaps
 pub mod Allocating
 -- the lemmas themselves

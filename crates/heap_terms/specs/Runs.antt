@@ -1,6 +1,6 @@
 -- Runs of a program: the turns that its schedule gives, and then all threads in turn until each has ended. That a
 -- schedule decides in which order threads go on is this project's own.
-use Rattle.std.specs.Prelude.{◌≡◌, ℕ, zero, suc, ◌<◌, List, [], ◌∷◌, ◌++◌, length}
+use Rattle.std.specs.Prelude.{◌≡◌, ℕ, zero, suc, List, [], ◌∷◌, ◌++◌, length}
 use Rattle.std.specs.List.{range_with_len}
 use Rattle.heap_terms.specs.declared.events.Event.{Event}
 use Rattle.heap_terms.specs.declared.phases.Phase.TheVariants as phases
@@ -33,4 +33,4 @@ pub record IsRun (p : Program) (lines : List ReplayLine) (h : List Event) : Type
   pub last : Configuration
   pub turns : AreTurns p (p.schedule ++ rounds_of (length p.threads) rounds) (machine_start p) lines last
   pub history : last.history ≡ h
-  pub ended : (t : ℕ) → t < length p.threads → phase_of last t ≡ phases.Ended
+  pub ended : (t : ℕ) → phase_of last t ≡ phases.Ended

@@ -1,0 +1,14 @@
+pub mod Others
+pub mod OwnSteps
+pub mod OwnWords
+pub mod HolderSteps
+pub mod OrderKept
+pub mod EventFacts
+pub mod FitsKept
+pub mod Bounds
+pub mod Falls
+pub mod TurnFalls
+pub mod Rounds
+pub mod Steps
+pub mod OneRun
+pub mod Complete
