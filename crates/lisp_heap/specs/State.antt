@@ -6,12 +6,13 @@ use Rattle.heap_terms.specs.Heap.{Thread}
 use Rattle.lisp_heap.specs.declared.states.ThreadState.{ThreadState}
 
 abbrev pub fresh_state : ThreadState
-fresh_state = record { done = 0; ended = false; cons_page = None; boxed_page = None; unboxed_page = None; open_run = None }
+fresh_state = record { done = 0; inhibits = 0; ended = false; cons_page = None; boxed_page = None; unboxed_page = None; open_run = None }
 
 -- what the World keeps of a thread of the named heap
 abbrev pub state_of : Thread → ThreadState
 state_of th = record {
   done = th.done;
+  inhibits = th.inhibits;
   ended = th.ended;
   cons_page = th.cons_page;
   boxed_page = th.boxed_page;

@@ -8,12 +8,14 @@ use heap_terms::{Memory, PageType};
 use std::alloc::Global;
 use std::marker::Model;
 
-/// How many of its commands a thread has done, whether it has ended, its open page of each type,
-/// and the first page of its open run.
+/// How many of its commands a thread has done, how often it inhibits collections, whether it has
+/// ended, its open page of each type, and the first page of its open run.
 #[derive(Clone, Copy)]
 pub struct ThreadState {
     /// How many of its commands it has done.
     pub done: usize,
+    /// How many sections it is in that inhibit collections.
+    pub inhibits: u32,
     /// Whether it has ended.
     pub ended: bool,
     /// Its open page of conses.
@@ -48,6 +50,7 @@ impl ThreadState {
     {
         ThreadState {
             done: 0,
+            inhibits: 0,
             ended: false,
             cons_page: None,
             boxed_page: None,

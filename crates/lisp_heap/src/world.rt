@@ -1,6 +1,6 @@
 //! The World.
 
-ghost use Rattle.std.specs.Prelude.{◌≡◌, ◌↔◌, ◌<◌, ℕ, [], length, IsSome, IsTrue, OnOk, OnErr, Some};
+ghost use Rattle.std.specs.Prelude.{◌≡◌, ◌↔◌, ◌<◌, ◌==◌, not, ℕ, [], length, IsSome, IsTrue, OnOk, OnErr, Some};
 ghost use Rattle.std.specs.Option.{ForSome};
 ghost use Rattle.heap_terms.specs.Heap.{thread_at};
 ghost use Rattle.heap_terms.specs.Regions.{wish_of, page_has_room};
@@ -121,6 +121,22 @@ impl World {
             None => Next::End,
             Some(command) => self.next_for(state, command),
         }
+    }
+
+    /// Whether thread t has ended. It takes no memory.
+    pub fn has_ended(&self, t: u32) -> bool
+        requires { t < length self.now.program.threads }
+        ensures { result ≡ (thread_at (heap_of self.now) t).ended }
+    {
+        self.states.at(t as usize).ended
+    }
+
+    /// Whether thread t inhibits collections. It takes no memory.
+    pub fn inhibits(&self, t: u32) -> bool
+        requires { t < length self.now.program.threads }
+        ensures { result ≡ not ((thread_at (heap_of self.now) t).inhibits == 0) }
+    {
+        self.states.at(t as usize).inhibits != 0
     }
 
     /// What a thread in a state does for a command.
