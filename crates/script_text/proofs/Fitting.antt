@@ -1,16 +1,20 @@
 -- The meanings of a line's fields have their forms and ranges.
-use Rattle.std.proofs.Common.{◌≡◌, ℕ, ◌<◌, Bool, true, false, cond, eqb, ltb, ◌&&◌, ◌||◌, not, List, [], ◌∷◌, ◌++◌, length, replicate, get_or, Option, Some, None, Result, Ok, Err, refl, subst, arith}
-use Rattle.std.specs.Prelude.{ok_or, option_map, option_and_then}
-use Rattle.std.specs.List.{slice_split, All}
-use Rattle.std.proofs.lemmas.Bool.{and_parts, ltb-true}
+use Rattle.std.proofs.Common.{◌≡◌, ℕ, zero, suc, ◌<◌, ◌≤◌, ◌^◌, Bool, true, false, cond, eqb, ltb, leb, ◌&&◌, ◌||◌, not, List, [], ◌∷◌, ◌++◌, length, take, drop, replicate, get_or, Option, Some, None, Result, Ok, Err, refl, subst, arith}
+use Rattle.std.specs.Prelude.{codes, bytes_eq, ok_or, option_map, option_and_then}
+use Rattle.std.specs.Char.{is_digit, digit_value}
+use Rattle.std.specs.Str.Parse.{AllDigits, digits_value}
+use Rattle.std.proofs.lemmas.Int.Digits.{digits_value-lt}
+use Rattle.std.specs.List.{slice_split, All, list_all}
+use Rattle.std.proofs.lemmas.Bool.{and_parts, ltb-true, leb-true}
 use Rattle.std.proofs.lemmas.List.Elements.{All-nil, All-cons, All-replicate, All-append}
 use Rattle.heap_terms.specs.declared.cells.Cell.{Cell}
 use Rattle.heap_terms.specs.declared.cells.Cell.TheVariants.{Stack, Exact, Shared}
+use Rattle.heap_terms.specs.declared.cells.Raw.{Raw}
 use Rattle.heap_terms.specs.declared.faults.Why.{Why}
 use Rattle.heap_terms.specs.declared.faults.Why.TheVariants.{Fields, Form, Range}
-use Rattle.heap_terms.specs.Fields.{◌>>=◌, number_of, signed_of, cell_of, cell_number, ranged, between, turns_of, turns_of_parts}
+use Rattle.heap_terms.specs.Fields.{◌>>=◌, number_of, signed_of, raw_word_of, raw_cell_of, is_numeral, cell_of, cell_number, ranged, between, turns_of, turns_of_parts}
 use Rattle.heap_terms.specs.Grammar.{FieldForm, LispCell, RawCell, RawWord, WeaknessWord, Number, Signed, Meaning, Saying, Statement, Row, meaning_of, said_of, said_by, turns_of_all}
-use Rattle.heap_terms.specs.Valid.{IsCell}
+use Rattle.heap_terms.specs.Valid.{IsCell, IsRaw}
 
 bind_ok : {A B : Type 0} (r : Result A Why) (f : A → Result B Why) (y : B) → (r >>= f) ≡ Ok y → (x : A) × (r ≡ Ok x) × (f x ≡ Ok y)
 bind_ok (Ok x) f y e = (x, refl, e)
@@ -66,6 +70,43 @@ cell_is (b ∷ digits) c e =
     (λ d h. chosen (eqb b 98) (option_map Exact n) _ IsCell (λ d h. made Exact n d (λ k g. number_below 16 digits k g) h)
     (λ d h. chosen (eqb b 103) (option_map Shared n) None IsCell (λ d h. made Shared n d (λ k g. number_below 16 digits k g) h) no_cell d h) d h) c e
 
+raw_is : (field : List ℕ) (r : Raw) → raw_cell_of field ≡ Some r → IsRaw r
+unfolding raw_cell_of
+raw_is [] r e = absurd cc
+raw_is (b ∷ digits) r e =
+    chosen (eqb b 114) (option_map (λ n. record { 0 = n }) (cell_number 8 digits)) None IsRaw (λ s h. at (cell_number 8 digits) s (λ k g. number_below 8 digits k g) h) (λ s h. absurd cc) r e
+  where
+    at : (o : Option ℕ) (s : Raw) → ((k : ℕ) → o ≡ Some k → k < 8) → option_map (λ n. record { 0 = n }) o ≡ Some s → IsRaw s
+    at None s h e = absurd cc
+    at (Some k) s h e = let same : record { 0 = k } ≡ s = cc in subst IsRaw same (h k refl)
+
+-- ---- raw words
+
+all_digits : (ds : List ℕ) → list_all (λ c. is_digit c 16) ds ≡ true → AllDigits 16 ds
+all_digits [] h = tt
+all_digits (c ∷ ds) h =
+    let both = and_parts (is_digit c 16) (list_all (λ x. is_digit x 16) ds) h in
+    (ltb-true (digit_value c) 16 both.0, all_digits ds both.1)
+
+pub power : (k m : ℕ) → k ≤ m → 16 ^ k ≤ 16 ^ m
+power zero zero h = omega arith
+power (suc k) zero h = absurd (omega arith)
+power zero (suc m) h = let more = power zero m (omega arith) in omega (arith, more)
+power (suc k) (suc m) h = let more = power k m (omega arith) in omega (arith, more)
+
+word_is : (field : List ℕ) (w : ℕ) → raw_word_of field ≡ Some w → w < 2 ^ 64
+unfolding raw_word_of
+word_is field w e =
+    let ds = drop 2 field in
+    let t = kept (bytes_eq (take 2 field) (codes "0x") && is_numeral 16 16 ds) (digits_value 16 ds) w e in
+    let a = and_parts (bytes_eq (take 2 field) (codes "0x")) (is_numeral 16 16 ds) t.0 in
+    let b = and_parts (leb 1 (length ds) && leb (length ds) 16) (list_all (λ c. is_digit c 16) ds) a.1 in
+    let d = and_parts (leb 1 (length ds)) (leb (length ds) 16) b.0 in
+    let short : length ds ≤ 16 = leb-true (length ds) 16 d.1 in
+    let below = digits_value-lt 16 ds (all_digits ds b.1) in
+    let most = power (length ds) 16 short in
+    omega (arith, below, most, t.1)
+
 -- ---- meanings
 
 -- a meaning is what its form says
@@ -73,8 +114,8 @@ abbrev pub Fits : (form : FieldForm) → Meaning form → Type 0
 Fits LispCell c = IsCell c
 Fits (Number test) n = test n ≡ true
 Fits (Signed test) n = test n ≡ true
-Fits RawCell r = Unit {0}
-Fits RawWord w = Unit {0}
+Fits RawCell r = IsRaw r
+Fits RawWord w = w < 2 ^ 64
 Fits WeaknessWord w = Unit {0}
 
 -- whatever is said of meanings that fit has a property
@@ -92,8 +133,8 @@ meaning_fits : (form : FieldForm) (field : List ℕ) (m : Meaning form) → mean
 meaning_fits LispCell field c e = cell_is field c (some_from_ok (cell_of field) Form c e)
 meaning_fits (Number test) field n e = ranged_ok test (number_of field) n e
 meaning_fits (Signed test) field n e = ranged_ok test (signed_of field) n e
-meaning_fits RawCell field r e = tt
-meaning_fits RawWord field w e = tt
+meaning_fits RawCell field r e = raw_is field r (some_from_ok (raw_cell_of field) Form r e)
+meaning_fits RawWord field w e = word_is field w (some_from_ok (raw_word_of field) Form w e)
 meaning_fits WeaknessWord field w e = tt
 
 each_said : (forms : List FieldForm) (says : Saying forms) (P : Statement → Type 0) (fs : List (List ℕ)) (said : Statement) → EachSaid forms says P →

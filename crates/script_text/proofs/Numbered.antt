@@ -1,15 +1,16 @@
 -- Numbers in their usual spelling.
-use Rattle.std.proofs.Common.{◌≡◌, ℕ, pos, zero, suc, ◌+◌, ◌-◌, ◌*◌, ◌^◌, ◌<◌, ◌≤◌, true, false, eqb, leb, ltb, ◌||◌, List, [], ◌∷◌, length, take, drop, get_or, Some, refl, sym, ap, ◌∙◌, arith}
+use Rattle.std.proofs.Common.{◌≡◌, ℕ, ℤ, pos, negsuc, zero, suc, ◌+◌, ◌-◌, ◌*◌, ◌^◌, ◌<◌, ◌≤◌, Bool, true, false, cond, eqb, leb, ltb, ◌||◌, List, [], ◌∷◌, length, take, drop, get_or, Option, Some, None, Ok, Err, refl, sym, ap, ◌∙◌, arith}
 use Rattle.std.specs.Prelude.{neg_ℤ}
 use Rattle.std.specs.Char.{digit_value}
 use Rattle.std.specs.List.{list_all}
 use Rattle.std.specs.Str.Parse.{digits_value}
-use Rattle.std.proofs.lemmas.Bool.{ne_eqb, le-leb, lt-ltb}
+use Rattle.std.proofs.lemmas.Bool.{ne_eqb, le-leb, lt-ltb, ltb-true}
 use Rattle.std.proofs.lemmas.Int.Digits.{digits_value_more}
 use Rattle.std.proofs.lemmas.List.{length-take-le}
 use Rattle.std.proofs.lemmas.Str.{digit_value_digit}
-use Rattle.heap_terms.specs.Fields.{number_of, signed_of, is_fixnum}
-use Rattle.script_text.specs.Commands.{Reads, an_index, a_fixnum}
+use Rattle.heap_terms.specs.Fields.{number_of, signed_of, ranged, is_fixnum, is_i64}
+use Rattle.heap_terms.specs.declared.faults.Why.TheVariants.{Range}
+use Rattle.script_text.specs.Commands.{Reads, an_index, a_fixnum, a_signed}
 use Rattle.script_text.specs.Left.{ends_field, field_len, Taken}
 use Rattle.script_text.specs.Values.{NumberAt}
 use Rattle.script_text.proofs.Digits.{decimal_digit, all_digits_more}
@@ -108,3 +109,19 @@ fixnum_read_signed rest digits after v long space minus e n =
       says = rw (signed (take n.len digits) v n.says, fixnum_below v n.small) refl;
       taken = rw (n.rest, e) (kind_taken rest 45 n.len long space minus (record { blank = refl; lf = refl; cr = refl }) (n.field ∙ ap field_len e));
     }
+
+-- a fixnum is a signed number of 64 bits
+fits : (z : ℤ) → is_fixnum z ≡ true → is_i64 z ≡ true
+fits (pos n) h = let low : n < 2 ^ 62 = ltb-true n (2 ^ 62) h in lt-ltb n (2 ^ 63) (omega arith)
+fits (negsuc n) h = let low : n < 2 ^ 62 = ltb-true n (2 ^ 62) h in lt-ltb n (2 ^ 63) (omega arith)
+
+signed_ok : (found : Option ℤ) (z : ℤ) → ranged is_fixnum found ≡ Ok z → ranged is_i64 found ≡ Ok z
+signed_ok None z e = absurd cc
+signed_ok (Some y) z e = at (is_fixnum y) (λ h. fits y h) e
+  where
+    at : (b : Bool) → (b ≡ true → is_i64 y ≡ true) → cond b (Ok y) (Err Range) ≡ Ok z → cond (is_i64 y) (Ok y) (Err Range) ≡ Ok z
+    at true h e = rw (h refl) e
+    at false h e = absurd cc
+
+pub signed_read : (rest after : List ℕ) (z : ℤ) → Reads a_fixnum rest z after → Reads a_signed rest z after
+signed_read rest after z r = record { field = r.field; says = signed_ok (signed_of r.field) z r.says; taken = r.taken }

@@ -7,8 +7,8 @@ use Rattle.heap_terms.specs.declared.commands.Command.{Command}
 use Rattle.heap_terms.specs.declared.commands.Command.TheVariants as commands
 use Rattle.heap_terms.specs.declared.faults.Why.{Why}
 use Rattle.heap_terms.specs.declared.faults.Why.TheVariants.{Fields}
-use Rattle.heap_terms.specs.Fields.{◌>>=◌, is_fixnum}
-use Rattle.heap_terms.specs.Grammar.{FieldForm, LispCell, Signed, Meaning, Saying, Statement, Does, Row, Small, meaning_of, said_of, rows, row, said_by, statement_of}
+use Rattle.heap_terms.specs.Fields.{◌>>=◌, is_fixnum, is_i64}
+use Rattle.heap_terms.specs.Grammar.{FieldForm, LispCell, RawCell, RawWord, Signed, Wide, Meaning, Saying, Statement, Does, Row, Small, meaning_of, said_of, rows, row, said_by, statement_of}
 use Rattle.script_text.specs.declared.words.Name.{Name}
 use Rattle.script_text.specs.declared.words.Name.TheVariants as names
 use Rattle.script_text.specs.Commands.{in_first, but_first, front_command, field_count, does}
@@ -27,18 +27,48 @@ bind_ok (Err d) f y e = absurd cc
 -- the row of a command
 pub row_of : Name → Row
 row_of names.Fix = row (codes "fix") (LispCell ∷ Signed is_fixnum ∷ []) (λ d n. Does (commands.Fix d n))
+row_of names.Nil = row (codes "nil") (LispCell ∷ []) (λ d. Does (commands.MakeNil d))
+row_of names.Move = row (codes "move") (LispCell ∷ LispCell ∷ []) (λ d c. Does (commands.Move d c))
 row_of names.Cons = row (codes "cons") (LispCell ∷ LispCell ∷ LispCell ∷ []) (λ d a b. Does (commands.NewCons d a b))
+row_of names.Vector = row (codes "vector") (LispCell ∷ Small ∷ []) (λ d n. Does (commands.NewVector d n))
+row_of names.Instance = row (codes "instance") (LispCell ∷ Small ∷ []) (λ d n. Does (commands.NewInstance d n))
+row_of names.Closure = row (codes "closure") (LispCell ∷ Small ∷ []) (λ d n. Does (commands.NewClosure d n))
+row_of names.Words = row (codes "words") (LispCell ∷ Small ∷ RawWord ∷ []) (λ d n w. Does (commands.NewWords d n w))
 row_of names.Get = row (codes "get") (LispCell ∷ LispCell ∷ Small ∷ []) (λ d c i. Does (commands.Get d c i))
 row_of names.Put = row (codes "put") (LispCell ∷ Small ∷ LispCell ∷ []) (λ c i a. Does (commands.Put c i a))
+row_of names.RawGet = row (codes "rawget") (RawCell ∷ LispCell ∷ Small ∷ []) (λ r c i. Does (commands.RawGet r c i))
+row_of names.RawPut = row (codes "rawput") (LispCell ∷ Small ∷ RawCell ∷ []) (λ c i r. Does (commands.RawPut c i r))
+row_of names.Eq = row (codes "eq") (LispCell ∷ LispCell ∷ []) (λ a b. Does (commands.Same a b))
 row_of names.Show = row (codes "show") (LispCell ∷ []) (λ c. Does (commands.Show c))
+row_of names.Addr = row (codes "addr") (RawCell ∷ LispCell ∷ []) (λ r c. Does (commands.Addr r c))
+row_of names.Raw = row (codes "raw") (RawCell ∷ RawWord ∷ []) (λ r w. Does (commands.SetRaw r w))
+row_of names.Add = row (codes "add") (RawCell ∷ Signed is_i64 ∷ []) (λ r k. Does (commands.AddRaw r k))
+row_of names.Page = row (codes "page") (Wide ∷ []) (λ p. Does (commands.ShowPage p))
+row_of names.Nogc = row (codes "nogc") [] (Does commands.Inhibit)
+row_of names.Gcok = row (codes "gcok") [] (Does commands.Allow)
 
 statement_is : (name : Name) (threads : ℕ) (fs : List (List ℕ)) → statement_of threads (text_of_name name) fs ≡ said_by (row_of name) fs
 unfolding statement_of rows row_of
 statement_is names.Fix threads fs = refl
+statement_is names.Nil threads fs = refl
+statement_is names.Move threads fs = refl
 statement_is names.Cons threads fs = refl
+statement_is names.Vector threads fs = refl
+statement_is names.Instance threads fs = refl
+statement_is names.Closure threads fs = refl
+statement_is names.Words threads fs = refl
 statement_is names.Get threads fs = refl
 statement_is names.Put threads fs = refl
+statement_is names.RawGet threads fs = refl
+statement_is names.RawPut threads fs = refl
+statement_is names.Eq threads fs = refl
 statement_is names.Show threads fs = refl
+statement_is names.Addr threads fs = refl
+statement_is names.Raw threads fs = refl
+statement_is names.Add threads fs = refl
+statement_is names.Page threads fs = refl
+statement_is names.Nogc threads fs = refl
+statement_is names.Gcok threads fs = refl
 
 abbrev front_said : Row → List (List ℕ) → Result Statement Why
 front_said r fs = said_of r.forms r.says fs
@@ -70,18 +100,48 @@ three fa fb fc k (f ∷ fs) =
 front_is : (name : Name) (fs : List (List ℕ)) → does (front_command name fs) ≡ front_said (row_of name) fs
 unfolding row_of
 front_is names.Fix fs = two LispCell (Signed is_fixnum) commands.Fix fs
+front_is names.Nil fs = one LispCell commands.MakeNil fs
+front_is names.Move fs = two LispCell LispCell commands.Move fs
 front_is names.Cons fs = three LispCell LispCell LispCell commands.NewCons fs
+front_is names.Vector fs = two LispCell Small commands.NewVector fs
+front_is names.Instance fs = two LispCell Small commands.NewInstance fs
+front_is names.Closure fs = two LispCell Small commands.NewClosure fs
+front_is names.Words fs = three LispCell Small RawWord commands.NewWords fs
 front_is names.Get fs = three LispCell LispCell Small commands.Get fs
 front_is names.Put fs = three LispCell Small LispCell commands.Put fs
+front_is names.RawGet fs = three RawCell LispCell Small commands.RawGet fs
+front_is names.RawPut fs = three LispCell Small RawCell commands.RawPut fs
+front_is names.Eq fs = two LispCell LispCell commands.Same fs
 front_is names.Show fs = one LispCell commands.Show fs
+front_is names.Addr fs = two RawCell LispCell commands.Addr fs
+front_is names.Raw fs = two RawCell RawWord commands.SetRaw fs
+front_is names.Add fs = two RawCell (Signed is_i64) commands.AddRaw fs
+front_is names.Page fs = one Wide commands.ShowPage fs
+front_is names.Nogc fs = refl
+front_is names.Gcok fs = refl
 
 count_is : (name : Name) → length (row_of name).forms ≡ field_count name
 unfolding row_of
 count_is names.Fix = refl
+count_is names.Nil = refl
+count_is names.Move = refl
 count_is names.Cons = refl
+count_is names.Vector = refl
+count_is names.Instance = refl
+count_is names.Closure = refl
+count_is names.Words = refl
 count_is names.Get = refl
 count_is names.Put = refl
+count_is names.RawGet = refl
+count_is names.RawPut = refl
+count_is names.Eq = refl
 count_is names.Show = refl
+count_is names.Addr = refl
+count_is names.Raw = refl
+count_is names.Add = refl
+count_is names.Page = refl
+count_is names.Nogc = refl
+count_is names.Gcok = refl
 
 -- ---- counting the fields
 

@@ -7,8 +7,8 @@ use Rattle.std.specs.List.{list_all}
 use Rattle.std.proofs.lemmas.Str.{digit_value_digit}
 use Rattle.heap_terms.specs.declared.cells.Cell.{Cell}
 use Rattle.heap_terms.specs.declared.cells.Cell.TheVariants.{Stack, Exact, Shared}
-use Rattle.heap_terms.specs.Fields.{fields_in, is_blank, number_of, cell_number, cell_of, turns_of}
-use Rattle.script_text.specs.Commands.{Reads, a_cell}
+use Rattle.heap_terms.specs.Fields.{fields_in, is_blank, number_of, cell_number, cell_of, raw_cell_of, turns_of}
+use Rattle.script_text.specs.Commands.{Reads, a_cell, a_raw_cell}
 use Rattle.script_text.specs.Left.{ends_field, field_len, fields_left, Taken, IsSolidWord, IsSpelled}
 use Rattle.script_text.proofs.Digits.{digit_yes}
 use Rattle.script_text.proofs.Lines.{lines-lf, SameLeft-blank, Taken-field, field_len-none, field_len-cons}
@@ -120,6 +120,12 @@ cell_two b low high =
     let below : ltb (b - 48 + 10) 16 ≡ true = lt-ltb (b - 48 + 10) 16 (omega arith) in
     rw (number_two b low (omega arith), below) refl
 
+raw_cell_one : (b : ℕ) → 48 ≤ b → b ≤ 55 → cell_number 8 (b ∷ []) ≡ Some (b - 48)
+unfolding cell_number
+raw_cell_one b low high =
+    let below : ltb (b - 48) 8 ≡ true = lt-ltb (b - 48) 8 (omega arith) in
+    rw (number_one b low (omega arith), below) refl
+
 -- ---- plain fields
 
 pub plain_one : (bytes : List ℕ) → 3 ≤ length bytes → 48 ≤ get_or bytes 0 0 → get_or bytes 0 0 ≤ 57 → (eqb (get_or bytes 1 0) 32 || eqb (get_or bytes 1 0) 10) ≡ true
@@ -208,6 +214,23 @@ exact_at bytes digits after m long space kind e b =
 pub shared_at : (bytes digits after : List ℕ) (m : ℕ) → 2 ≤ length bytes → get_or bytes 0 0 ≡ 32 → get_or bytes 1 0 ≡ 103 → digits ≡ drop 2 bytes → Behind digits m after → Reads a_cell bytes (Shared m) after
 shared_at bytes digits after m long space kind e b =
     let d = subst (λ (xs : List ℕ). Behind xs m after) e b in cell_read bytes after (Shared m) (plain_shared bytes after m d.0 long space kind d.1 d.2 d.3)
+
+-- a raw cell in its usual spelling
+raw_cell_says : (b : ℕ) → 48 ≤ b → b ≤ 55 → a_raw_cell (114 ∷ b ∷ []) ≡ Ok (record { 0 = b - 48 })
+unfolding raw_cell_of
+raw_cell_says b low high = rw (raw_cell_one b low high) refl
+
+pub raw_at : (bytes after : List ℕ) → 4 ≤ length bytes → get_or bytes 0 0 ≡ 32 → get_or bytes 1 0 ≡ 114 → 48 ≤ get_or bytes 2 0 → get_or bytes 2 0 ≤ 55 →
+    (eqb (get_or bytes 3 0) 32 || eqb (get_or bytes 3 0) 10) ≡ true → after ≡ drop 3 bytes → Reads a_raw_cell bytes (record { 0 = get_or bytes 2 0 - 48 }) after
+raw_at [] after long space kind low high ends back = absurd (omega arith)
+raw_at (a ∷ []) after long space kind low high ends back = absurd (omega arith)
+raw_at (a ∷ b ∷ []) after long space kind low high ends back = absurd (omega arith)
+raw_at (a ∷ b ∷ x ∷ []) after long space kind low high ends back = absurd (omega arith)
+raw_at (a ∷ b ∷ x ∷ y ∷ bytes) after long space kind low high ends back = record {
+  field = 114 ∷ x ∷ [];
+  says = raw_cell_says x low high;
+  taken = rw back (kind_taken (a ∷ b ∷ x ∷ y ∷ bytes) 114 1 (omega arith) space kind (record { blank = refl; lf = refl; cr = refl }) (sym (len_one x y bytes (digit_solid x low) ends)));
+}
 
 -- no field is left before an LF
 pub lf_ends : (bytes : List ℕ) → 1 ≤ length bytes → get_or bytes 0 0 ≡ 10 → length (fields_left bytes) ≡ 0

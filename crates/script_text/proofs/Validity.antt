@@ -1,9 +1,9 @@
 -- A program that is read is valid.
-use Rattle.std.proofs.Common.{◌≡◌, ℕ, ℤ, pos, negsuc, ◌+◌, ◌≤◌, ◌<◌, ◌^◌, Bool, true, false, cond, eqb, ltb, not, List, [], ◌∷◌, ◌++◌, length, Option, Some, None, Result, Ok, Err, refl, sym, ◌∙◌, subst, arith, inl, inr, length-append}
-use Rattle.std.specs.Prelude.{codes, bytes_eq, sum_by, count_by, slice_index}
+use Rattle.std.proofs.Common.{◌≡◌, ℕ, ℤ, pos, negsuc, ◌+◌, ◌≤◌, ◌<◌, ◌^◌, Bool, true, false, cond, eqb, ltb, leb, not, List, [], ◌∷◌, ◌++◌, length, Option, Some, None, Result, Ok, Err, refl, sym, ◌∙◌, subst, arith, inl, inr, length-append}
+use Rattle.std.specs.Prelude.{codes, bytes_eq, sum_by, count_by, slice_index, find}
 use Rattle.std.specs.List.{All}
 use Rattle.std.specs.Str.Lines.{lines}
-use Rattle.std.proofs.lemmas.Bool.{or_cases, ltb-true, ltb-false, leb-true, false≢true}
+use Rattle.std.proofs.lemmas.Bool.{and_parts, ltb-true, ltb-false, leb-true, false≢true}
 use Rattle.std.proofs.lemmas.List.Elements.{All-nil, All-cons, All-head, All-tail, All-push, All-append, All-weaker}
 use Rattle.std.proofs.lemmas.List.Sums.{sum_by-append}
 use Rattle.std.proofs.lemmas.Slice.Eq.{bytes_eq-Decides}
@@ -14,10 +14,10 @@ use Rattle.heap_terms.specs.declared.faults.LimitKind.TheVariants as limits
 use Rattle.heap_terms.specs.declared.faults.Why.{Why}
 use Rattle.heap_terms.specs.declared.faults.Why.TheVariants.{Word, Order}
 use Rattle.heap_terms.specs.declared.programs.Program.{Program}
-use Rattle.heap_terms.specs.Fields.{◌>>=◌, between, at_least, is_fixnum, fields_in}
-use Rattle.heap_terms.specs.Grammar.{LispCell, Number, Signed, Statement, Version, HeapOf, AutoOf, NewThread, Does, Turns, EndOfScript, Row, Small, row, said_by, schedule_of, statement_of, turns_of_all, rows}
+use Rattle.heap_terms.specs.Fields.{◌>>=◌, between, at_least, at_most, is_auto, is_fixnum, is_i64, fields_in}
+use Rattle.heap_terms.specs.Grammar.{LispCell, RawCell, RawWord, WeaknessWord, Number, Signed, Wide, Statement, Version, HeapOf, AutoOf, NewThread, Does, Turns, EndOfScript, Row, Small, row, said_by_row_of, schedule_of, statement_of, turns_of_all, rows}
 use Rattle.heap_terms.specs.ScriptReading.{Place, AtStart, AfterVersion, AfterHeap, AfterAuto, InThread, InSchedule, AfterEnd, SoFar, nothing_read, Refused, Bad, may_follow, place_after, onto_last, with_statement, unless_above, limit_of_command, limit_passed, unless_passed, within_limits, judged_word, judged, Fault, fault_at, finished_at, read_lines, read_script}
-use Rattle.heap_terms.specs.Valid.{IsCommand, IsFixnum, IsInRange, IsValid, NamesYoungest, is_built, is_gc, name_of}
+use Rattle.heap_terms.specs.Valid.{IsCommand, IsFixnum, IsInRange, IsSigned, IsValid, NamesYoungest, is_built, is_gc, name_of}
 use Rattle.script_text.proofs.Fitting.{EachSaid, row_said, turns_below}
 use Rattle.script_text.proofs.Sums.{length-onto_last, commands-onto_last, gcs-onto_last}
 
@@ -81,6 +81,23 @@ fixnum_is : (n : ℤ) → is_fixnum n ≡ true → IsFixnum n
 fixnum_is (pos n) e = ltb-true n (2 ^ 62) e
 fixnum_is (negsuc n) e = ltb-true n (2 ^ 62) e
 
+signed_is : (n : ℤ) → is_i64 n ≡ true → IsSigned n
+signed_is (pos n) e = ltb-true n (2 ^ 63) e
+signed_is (negsuc n) e = ltb-true n (2 ^ 63) e
+
+narrow : (n : ℕ) → leb n 4294967295 ≡ true → n < 2 ^ 32
+narrow n e = let most : n ≤ 4294967295 = leb-true n 4294967295 e in omega arith
+
+-- until generations are built a `gc` names generation 0
+none : (n : ℕ) → leb n 0 ≡ true → n ≡ 0
+none n e = let most : n ≤ 0 = leb-true n 0 e in omega arith
+
+none_most : (n : ℕ) → leb n 0 ≡ true → n ≤ 5
+none_most n e = let most : n ≤ 0 = leb-true n 0 e in omega arith
+
+some_same : (x r : Row) → Some x ≡ Some r → x ≡ r
+some_same x r e = cc
+
 -- a command with its fields in range is sound
 sound : {c : Command} → is_built (name_of c) ≡ true → IsInRange c → NamesYoungest c → Sound c
 sound built in_range youngest = record { command = record { built = built; in_range = in_range }; youngest = youngest }
@@ -97,96 +114,327 @@ schedule_may place threads (f ∷ fs) said h e = at (turns_of_all threads (f ∷
     at (Ok ts) g k = let same : Turns ts ≡ said = cc in subst (May place threads) same (g ts refl, h)
     at (Err why) g k = absurd cc
 
--- a built word and what it says
-pub record Says (place : Place) (threads : ℕ) (word : List ℕ) : Type 0 where
-  may : may_follow place word ≡ true → (fs : List (List ℕ)) (said : Statement) → statement_of threads word fs ≡ Ok said → May place threads said
+-- Whatever the line of a row says may come where the word may stand. Which words are built is no matter here.
+record IsGood (r : Row) : Type 0 where
+  says : (place : Place) (threads : ℕ) → is_built r.word ≡ true → may_follow place r.word ≡ true → EachSaid r.forms r.says (May place threads)
 
-by_row : (place : Place) (threads : ℕ) (r : Row) → EachSaid r.forms r.says (May place threads) → (fs : List (List ℕ)) (said : Statement) → said_by r fs ≡ Ok said → May place threads said
-by_row place threads r h fs said e = row_said r (May place threads) fs said h e
+good_lispheap : IsGood (row (codes "lispheap") (Number (between 1 1) ∷ []) (λ v. Version))
+unfolding May
+good_lispheap = record { says = λ place threads built e v h. tt }
 
-says_lispheap : (place : Place) (threads : ℕ) → Says place threads (codes "lispheap")
-unfolding May statement_of rows
-says_lispheap place threads = record { may = λ e fs said h. by_row place threads (row (codes "lispheap") (Number (between 1 1) ∷ []) (λ v. Version)) (λ m g. tt) fs said h }
+good_heap : IsGood (row (codes "heap") (Number (at_least 1) ∷ []) (λ n. HeapOf n))
+unfolding May
+good_heap = record { says = λ place threads built e n h. leb-true _ _ h }
 
-says_heap : (place : Place) (threads : ℕ) → Says place threads (codes "heap")
-unfolding May statement_of rows
-says_heap place threads = record { may = λ e fs said h. by_row place threads (row (codes "heap") (Number (at_least 1) ∷ []) (λ n. HeapOf n)) (λ n g. leb-true _ _ g) fs said h }
+-- `auto` is not built
+good_auto : IsGood (row (codes "auto") (Number is_auto ∷ []) (λ n. AutoOf n))
+good_auto = record { says = λ place threads built e n h. absurd (false≢true built) }
 
-says_thread : (place : Place) (threads : ℕ) → Says place threads (codes "thread")
-unfolding May statement_of rows
-says_thread place threads = record { may = λ e fs said h. by_row place threads (row (codes "thread") [] NewThread) (heap_before place e) fs said h }
+good_thread : IsGood (row (codes "thread") [] NewThread)
+unfolding May
+good_thread = record { says = λ place threads built e. heap_before place e }
 
-says_end : (place : Place) (threads : ℕ) → Says place threads (codes "end")
-unfolding May statement_of rows
-says_end place threads = record { may = λ e fs said h. by_row place threads (row (codes "end") [] EndOfScript) (thread_before (codes "end") place (late refl refl refl refl) e) fs said h }
+good_end : IsGood (row (codes "end") [] EndOfScript)
+unfolding May
+good_end = record { says = λ place threads built e. thread_before (codes "end") place (late refl refl refl refl) e }
 
-says_schedule : (place : Place) (threads : ℕ) → Says place threads (codes "schedule")
+good_fix : IsGood (row (codes "fix") (LispCell ∷ Signed is_fixnum ∷ []) (λ d n. Does (commands.Fix d n)))
+unfolding May
+good_fix = record { says = λ place threads built e d hd n hn. (sound built (hd, fixnum_is n hn) tt, thread_before (codes "fix") place (late refl refl refl refl) e) }
+
+good_nil : IsGood (row (codes "nil") (LispCell ∷ []) (λ d. Does (commands.MakeNil d)))
+unfolding May
+good_nil = record { says = λ place threads built e d hd. (sound built (hd) tt, thread_before (codes "nil") place (late refl refl refl refl) e) }
+
+good_move : IsGood (row (codes "move") (LispCell ∷ LispCell ∷ []) (λ d c. Does (commands.Move d c)))
+unfolding May
+good_move = record { says = λ place threads built e d hd c hc. (sound built (hd, hc) tt, thread_before (codes "move") place (late refl refl refl refl) e) }
+
+good_cons : IsGood (row (codes "cons") (LispCell ∷ LispCell ∷ LispCell ∷ []) (λ d a b. Does (commands.NewCons d a b)))
+unfolding May
+good_cons = record { says = λ place threads built e d hd a ha b hb. (sound built (hd, ha, hb) tt, thread_before (codes "cons") place (late refl refl refl refl) e) }
+
+good_vector : IsGood (row (codes "vector") (LispCell ∷ Small ∷ []) (λ d n. Does (commands.NewVector d n)))
+unfolding May
+good_vector = record { says = λ place threads built e d hd n hn. (sound built (hd, leb-true _ _ hn) tt, thread_before (codes "vector") place (late refl refl refl refl) e) }
+
+good_instance : IsGood (row (codes "instance") (LispCell ∷ Small ∷ []) (λ d n. Does (commands.NewInstance d n)))
+unfolding May
+good_instance = record { says = λ place threads built e d hd n hn. (sound built (hd, leb-true _ _ hn) tt, thread_before (codes "instance") place (late refl refl refl refl) e) }
+
+good_closure : IsGood (row (codes "closure") (LispCell ∷ Small ∷ []) (λ d n. Does (commands.NewClosure d n)))
+unfolding May
+good_closure = record { says = λ place threads built e d hd n hn. (sound built (hd, leb-true _ _ hn) tt, thread_before (codes "closure") place (late refl refl refl refl) e) }
+
+good_words : IsGood (row (codes "words") (LispCell ∷ Small ∷ RawWord ∷ []) (λ d n w. Does (commands.NewWords d n w)))
+unfolding May
+good_words = record { says = λ place threads built e d hd n hn w hw. (sound built (hd, leb-true _ _ hn, hw) tt, thread_before (codes "words") place (late refl refl refl refl) e) }
+
+good_weak : IsGood (row (codes "weak") (LispCell ∷ LispCell ∷ []) (λ d c. Does (commands.NewWeak d c)))
+unfolding May
+good_weak = record { says = λ place threads built e d hd c hc. (sound built (hd, hc) tt, thread_before (codes "weak") place (late refl refl refl refl) e) }
+
+good_table : IsGood (row (codes "table") (LispCell ∷ WeaknessWord ∷ Number (between 1 64) ∷ []) (λ d w b. Does (commands.NewTable d w b)))
+unfolding May
+good_table = record { says = λ place threads built e d hd w hw b hb. (sound built (hd, leb-true _ _ (and_parts (leb 1 b) (leb b 64) hb).0, leb-true _ _ (and_parts (leb 1 b) (leb b 64) hb).1) tt, thread_before (codes "table") place (late refl refl refl refl) e) }
+
+good_get : IsGood (row (codes "get") (LispCell ∷ LispCell ∷ Small ∷ []) (λ d c i. Does (commands.Get d c i)))
+unfolding May
+good_get = record { says = λ place threads built e d hd c hc i hi. (sound built (hd, hc, leb-true _ _ hi) tt, thread_before (codes "get") place (late refl refl refl refl) e) }
+
+good_put : IsGood (row (codes "put") (LispCell ∷ Small ∷ LispCell ∷ []) (λ c i a. Does (commands.Put c i a)))
+unfolding May
+good_put = record { says = λ place threads built e c hc i hi a ha. (sound built (hc, leb-true _ _ hi, ha) tt, thread_before (codes "put") place (late refl refl refl refl) e) }
+
+good_rawget : IsGood (row (codes "rawget") (RawCell ∷ LispCell ∷ Small ∷ []) (λ r c i. Does (commands.RawGet r c i)))
+unfolding May
+good_rawget = record { says = λ place threads built e r hr c hc i hi. (sound built (hr, hc, leb-true _ _ hi) tt, thread_before (codes "rawget") place (late refl refl refl refl) e) }
+
+good_rawput : IsGood (row (codes "rawput") (LispCell ∷ Small ∷ RawCell ∷ []) (λ c i r. Does (commands.RawPut c i r)))
+unfolding May
+good_rawput = record { says = λ place threads built e c hc i hi r hr. (sound built (hc, leb-true _ _ hi, hr) tt, thread_before (codes "rawput") place (late refl refl refl refl) e) }
+
+good_eq : IsGood (row (codes "eq") (LispCell ∷ LispCell ∷ []) (λ a b. Does (commands.Same a b)))
+unfolding May
+good_eq = record { says = λ place threads built e a ha b hb. (sound built (ha, hb) tt, thread_before (codes "eq") place (late refl refl refl refl) e) }
+
+good_show : IsGood (row (codes "show") (LispCell ∷ []) (λ c. Does (commands.Show c)))
+unfolding May
+good_show = record { says = λ place threads built e c hc. (sound built (hc) tt, thread_before (codes "show") place (late refl refl refl refl) e) }
+
+good_addr : IsGood (row (codes "addr") (RawCell ∷ LispCell ∷ []) (λ r c. Does (commands.Addr r c)))
+unfolding May
+good_addr = record { says = λ place threads built e r hr c hc. (sound built (hr, hc) tt, thread_before (codes "addr") place (late refl refl refl refl) e) }
+
+good_raw : IsGood (row (codes "raw") (RawCell ∷ RawWord ∷ []) (λ r w. Does (commands.SetRaw r w)))
+unfolding May
+good_raw = record { says = λ place threads built e r hr w hw. (sound built (hr, hw) tt, thread_before (codes "raw") place (late refl refl refl refl) e) }
+
+good_add : IsGood (row (codes "add") (RawCell ∷ Signed is_i64 ∷ []) (λ r k. Does (commands.AddRaw r k)))
+unfolding May
+good_add = record { says = λ place threads built e r hr k hk. (sound built (hr, signed_is k hk) tt, thread_before (codes "add") place (late refl refl refl refl) e) }
+
+good_pin : IsGood (row (codes "pin") (LispCell ∷ []) (λ c. Does (commands.Pin c)))
+unfolding May
+good_pin = record { says = λ place threads built e c hc. (sound built (hc) tt, thread_before (codes "pin") place (late refl refl refl refl) e) }
+
+good_unpin : IsGood (row (codes "unpin") [] (Does commands.Unpin))
+unfolding May
+good_unpin = record { says = λ place threads built e. (sound built tt tt, thread_before (codes "unpin") place (late refl refl refl refl) e) }
+
+good_weakval : IsGood (row (codes "weakval") (LispCell ∷ LispCell ∷ []) (λ d c. Does (commands.WeakVal d c)))
+unfolding May
+good_weakval = record { says = λ place threads built e d hd c hc. (sound built (hd, hc) tt, thread_before (codes "weakval") place (late refl refl refl refl) e) }
+
+good_tput : IsGood (row (codes "tput") (LispCell ∷ LispCell ∷ LispCell ∷ []) (λ c k v. Does (commands.TablePut c k v)))
+unfolding May
+good_tput = record { says = λ place threads built e c hc k hk v hv. (sound built (hc, hk, hv) tt, thread_before (codes "tput") place (late refl refl refl refl) e) }
+
+good_tget : IsGood (row (codes "tget") (LispCell ∷ LispCell ∷ LispCell ∷ []) (λ d c k. Does (commands.TableGet d c k)))
+unfolding May
+good_tget = record { says = λ place threads built e d hd c hc k hk. (sound built (hd, hc, hk) tt, thread_before (codes "tget") place (late refl refl refl refl) e) }
+
+good_trem : IsGood (row (codes "trem") (LispCell ∷ LispCell ∷ []) (λ c k. Does (commands.TableRem c k)))
+unfolding May
+good_trem = record { says = λ place threads built e c hc k hk. (sound built (hc, hk) tt, thread_before (codes "trem") place (late refl refl refl refl) e) }
+
+good_tcount : IsGood (row (codes "tcount") (LispCell ∷ []) (λ c. Does (commands.TableCount c)))
+unfolding May
+good_tcount = record { says = λ place threads built e c hc. (sound built (hc) tt, thread_before (codes "tcount") place (late refl refl refl refl) e) }
+
+good_finalize : IsGood (row (codes "finalize") (LispCell ∷ Wide ∷ []) (λ c id. Does (commands.Finalize c id)))
+unfolding May
+good_finalize = record { says = λ place threads built e c hc id hid. (sound built (hc, narrow id hid) tt, thread_before (codes "finalize") place (late refl refl refl refl) e) }
+
+good_cancel : IsGood (row (codes "cancel") (LispCell ∷ []) (λ c. Does (commands.Cancel c)))
+unfolding May
+good_cancel = record { says = λ place threads built e c hc. (sound built (hc) tt, thread_before (codes "cancel") place (late refl refl refl refl) e) }
+
+good_runfin : IsGood (row (codes "runfin") [] (Does commands.RunFinalizers))
+unfolding May
+good_runfin = record { says = λ place threads built e. (sound built tt tt, thread_before (codes "runfin") place (late refl refl refl refl) e) }
+
+good_gc : IsGood (row (codes "gc") (Number (at_most 0) ∷ []) (λ g. Does (commands.Collect g)))
+unfolding May
+good_gc = record { says = λ place threads built e g hg. (sound built (none_most g hg) (none g hg), thread_before (codes "gc") place (late refl refl refl refl) e) }
+
+good_nogc : IsGood (row (codes "nogc") [] (Does commands.Inhibit))
+unfolding May
+good_nogc = record { says = λ place threads built e. (sound built tt tt, thread_before (codes "nogc") place (late refl refl refl refl) e) }
+
+good_gcok : IsGood (row (codes "gcok") [] (Does commands.Allow))
+unfolding May
+good_gcok = record { says = λ place threads built e. (sound built tt tt, thread_before (codes "gcok") place (late refl refl refl refl) e) }
+
+good_page : IsGood (row (codes "page") (Wide ∷ []) (λ p. Does (commands.ShowPage p)))
+unfolding May
+good_page = record { says = λ place threads built e p hp. (sound built (narrow p hp) tt, thread_before (codes "page") place (late refl refl refl refl) e) }
+
+good_stat : IsGood (row (codes "stat") (Number (at_most 6) ∷ []) (λ g. Does (commands.Stat g)))
+unfolding May
+good_stat = record { says = λ place threads built e g hg. (sound built (leb-true _ _ hg) tt, thread_before (codes "stat") place (late refl refl refl refl) e) }
+
+abbrev AreGood : List Row → Type 0
+AreGood [] = Unit {0}
+AreGood (r ∷ rs) = IsGood r × AreGood rs
+
+all_good : AreGood rows
+unfolding rows
+all_good = (
+  good_lispheap,
+  (
+    good_heap,
+    (
+      good_auto,
+      (
+        good_thread,
+        (
+          good_end,
+          (
+            good_fix,
+            (
+              good_nil,
+              (
+                good_move,
+                (
+                  good_cons,
+                  (
+                    good_vector,
+                    (
+                      good_instance,
+                      (
+                        good_closure,
+                        (
+                          good_words,
+                          (
+                            good_weak,
+                            (
+                              good_table,
+                              (
+                                good_get,
+                                (
+                                  good_put,
+                                  (
+                                    good_rawget,
+                                    (
+                                      good_rawput,
+                                      (
+                                        good_eq,
+                                        (
+                                          good_show,
+                                          (
+                                            good_addr,
+                                            (
+                                              good_raw,
+                                              (
+                                                good_add,
+                                                (
+                                                  good_pin,
+                                                  (
+                                                    good_unpin,
+                                                    (
+                                                      good_weakval,
+                                                      (
+                                                        good_tput,
+                                                        (
+                                                          good_tget,
+                                                          (
+                                                            good_trem,
+                                                            (
+                                                              good_tcount,
+                                                              (
+                                                                good_finalize,
+                                                                (
+                                                                  good_cancel,
+                                                                  (
+                                                                    good_runfin,
+                                                                    (
+                                                                      good_gc,
+                                                                      (
+                                                                        good_nogc,
+                                                                        (
+                                                                          good_gcok,
+                                                                          (
+                                                                            good_page,
+                                                                            (
+                                                                              good_stat,
+                                                                              tt,
+                                                                            ),
+                                                                          ),
+                                                                        ),
+                                                                      ),
+                                                                    ),
+                                                                  ),
+                                                                ),
+                                                              ),
+                                                            ),
+                                                          ),
+                                                        ),
+                                                      ),
+                                                    ),
+                                                  ),
+                                                ),
+                                              ),
+                                            ),
+                                          ),
+                                        ),
+                                      ),
+                                    ),
+                                  ),
+                                ),
+                              ),
+                            ),
+                          ),
+                        ),
+                      ),
+                    ),
+                  ),
+                ),
+              ),
+            ),
+          ),
+        ),
+      ),
+    ),
+  ),
+)
+
+-- the row that is found is the word's
+found : (word : List ℕ) (rs : List Row) (r : Row) → AreGood rs → find (λ (x : Row). bytes_eq word x.word) rs ≡ Some r → IsGood r × (word ≡ r.word)
+found word [] r all e = absurd cc
+found word (x ∷ rs) r all e = at (bytes_eq word x.word) refl (λ later. found word rs r all.1 later) e
+  where
+    at : (b : Bool) → bytes_eq word x.word ≡ b → (find (λ (y : Row). bytes_eq word y.word) rs ≡ Some r → IsGood r × (word ≡ r.word)) →
+        cond b (Some x) (find (λ (y : Row). bytes_eq word y.word) rs) ≡ Some r → IsGood r × (word ≡ r.word)
+    at true same more e =
+        let here : x ≡ r = some_same x r e in
+        subst (λ (y : Row). IsGood y × (word ≡ y.word)) here (all.0, (bytes_eq-Decides word x.word).0 same)
+    at false same more e = more e
+
+by_row : (place : Place) (threads : ℕ) (word : List ℕ) (fs : List (List ℕ)) (said : Statement) → is_built word ≡ true → may_follow place word ≡ true →
+    said_by_row_of (find (λ (r : Row). bytes_eq word r.word) rows) fs ≡ Ok said → May place threads said
+by_row place threads word fs said built e h = at (find (λ (r : Row). bytes_eq word r.word) rows) (λ r g. found word rows r all_good g) h
+  where
+    at : (o : Option Row) → ((r : Row) → o ≡ Some r → IsGood r × (word ≡ r.word)) → said_by_row_of o fs ≡ Ok said → May place threads said
+    at None good h = absurd cc
+    at (Some r) good h =
+        let g = good r refl in
+        row_said r (May place threads) fs said
+        (g.0.says place threads (subst (λ (w : List ℕ). is_built w ≡ true) g.1 built) (subst (λ (w : List ℕ). may_follow place w ≡ true) g.1 e)) h
+
+schedule_late : IsLate (codes "schedule")
+schedule_late = late refl refl refl refl
+
+-- what the line of a built word says may come where the word may stand
+says : (place : Place) (threads : ℕ) (word : List ℕ) → is_built word ≡ true → may_follow place word ≡ true → (fs : List (List ℕ)) (said : Statement) → statement_of threads word fs ≡ Ok said → May place threads said
 unfolding statement_of
-says_schedule place threads = record { may = λ e fs said h. schedule_may place threads fs said (thread_before (codes "schedule") place (late refl refl refl refl) e) h }
-
-says_fix : (place : Place) (threads : ℕ) → Says place threads (codes "fix")
-unfolding May statement_of rows
-says_fix place threads = record { may = λ e fs said h. by_row place threads (row (codes "fix") (LispCell ∷ Signed is_fixnum ∷ []) (λ d n. Does (commands.Fix d n))) (λ d hd n hn. (sound refl (hd, fixnum_is n hn) tt, thread_before (codes "fix") place (late refl refl refl refl) e)) fs said h }
-
-says_cons : (place : Place) (threads : ℕ) → Says place threads (codes "cons")
-unfolding May statement_of rows
-says_cons place threads = record { may = λ e fs said h. by_row place threads (row (codes "cons") (LispCell ∷ LispCell ∷ LispCell ∷ []) (λ d a b. Does (commands.NewCons d a b))) (λ d hd a ha b hb. (sound refl (hd, ha, hb) tt, thread_before (codes "cons") place (late refl refl refl refl) e)) fs said h }
-
-says_get : (place : Place) (threads : ℕ) → Says place threads (codes "get")
-unfolding May statement_of rows
-says_get place threads = record { may = λ e fs said h. by_row place threads (row (codes "get") (LispCell ∷ LispCell ∷ Small ∷ []) (λ d c i. Does (commands.Get d c i))) (λ d hd c hc i hi. (sound refl (hd, hc, leb-true _ _ hi) tt, thread_before (codes "get") place (late refl refl refl refl) e)) fs said h }
-
-says_put : (place : Place) (threads : ℕ) → Says place threads (codes "put")
-unfolding May statement_of rows
-says_put place threads = record { may = λ e fs said h. by_row place threads (row (codes "put") (LispCell ∷ Small ∷ LispCell ∷ []) (λ c i a. Does (commands.Put c i a))) (λ c hc i hi a ha. (sound refl (hc, leb-true _ _ hi, ha) tt, thread_before (codes "put") place (late refl refl refl refl) e)) fs said h }
-
-says_show : (place : Place) (threads : ℕ) → Says place threads (codes "show")
-unfolding May statement_of rows
-says_show place threads = record { may = λ e fs said h. by_row place threads (row (codes "show") (LispCell ∷ []) (λ c. Does (commands.Show c))) (λ c hc. (sound refl hc tt, thread_before (codes "show") place (late refl refl refl refl) e)) fs said h }
-
--- each built word is one of these
-at_word : (place : Place) (threads : ℕ) (word known : List ℕ) → Says place threads known → bytes_eq word known ≡ true → Says place threads word
-at_word place threads word known says e = subst (Says place threads) (sym ((bytes_eq-Decides word known).0 e)) says
-
-pub says : (place : Place) (threads : ℕ) (word : List ℕ) → is_built word ≡ true → Says place threads word
-says place threads word h =
-    elim (or_cases (bytes_eq word (codes "lispheap")) _ h) [
-      | inl e ↦ at_word place threads word _ (says_lispheap place threads) e
-      | inr h ↦
-          elim (or_cases (bytes_eq word (codes "heap")) _ h) [
-            | inl e ↦ at_word place threads word _ (says_heap place threads) e
-            | inr h ↦
-                elim (or_cases (bytes_eq word (codes "thread")) _ h) [
-                  | inl e ↦ at_word place threads word _ (says_thread place threads) e
-                  | inr h ↦
-                      elim (or_cases (bytes_eq word (codes "fix")) _ h) [
-                        | inl e ↦ at_word place threads word _ (says_fix place threads) e
-                        | inr h ↦
-                            elim (or_cases (bytes_eq word (codes "cons")) _ h) [
-                              | inl e ↦ at_word place threads word _ (says_cons place threads) e
-                              | inr h ↦
-                                  elim (or_cases (bytes_eq word (codes "get")) _ h) [
-                                    | inl e ↦ at_word place threads word _ (says_get place threads) e
-                                    | inr h ↦
-                                        elim (or_cases (bytes_eq word (codes "put")) _ h) [
-                                          | inl e ↦ at_word place threads word _ (says_put place threads) e
-                                          | inr h ↦
-                                              elim (or_cases (bytes_eq word (codes "show")) _ h) [
-                                                | inl e ↦ at_word place threads word _ (says_show place threads) e
-                                                | inr h ↦
-                                                    elim (or_cases (bytes_eq word (codes "schedule")) _ h) [
-                                                      | inl e ↦ at_word place threads word _ (says_schedule place threads) e
-                                                      | inr h ↦
-                                                          elim (or_cases (bytes_eq word (codes "end")) false h) [ inl e ↦ at_word place threads word _ (says_end place threads) e | inr h ↦ absurd (false≢true h) ]
-                                                    ]
-                                              ]
-                                        ]
-                                  ]
-                            ]
-                      ]
-                ]
-          ]
-    ]
+says place threads word built e fs said h = at (bytes_eq word (codes "schedule")) refl h
+  where
+    at : (b : Bool) → bytes_eq word (codes "schedule") ≡ b → cond b (schedule_of threads fs) (said_by_row_of (find (λ (r : Row). bytes_eq word r.word) rows) fs) ≡ Ok said → May place threads said
+    at true same h =
+        let is : word ≡ codes "schedule" = (bytes_eq-Decides word (codes "schedule")).0 same in
+        schedule_may place threads fs said (thread_before (codes "schedule") place schedule_late (subst (λ (w : List ℕ). may_follow place w ≡ true) is e)) h
+    at false same h = by_row place threads word fs said built e h
 
 -- ---- the lines so far
 
@@ -393,7 +641,7 @@ word_good s word fs next g e =
     let built = past_test (is_built word) (Bad Word) _ next e in
     let placed = past_test (may_follow s.place word) (Bad Order) _ next built.1 in
     limits_good s (statement_of (length s.program.threads) word fs) next
-    (λ st said. (says s.place (length s.program.threads) word built.0).may placed.0 fs st said) g placed.1
+    (λ st said. says s.place (length s.program.threads) word built.0 placed.0 fs st said) g placed.1
 
 judged_good : (s : SoFar) (fs : List (List ℕ)) (next : SoFar) → GoodSoFar s → judged s fs ≡ Ok next → GoodSoFar next
 unfolding judged

@@ -11,10 +11,25 @@ use Rattle.script_text.specs.declared.words.Place.TheVariants as places
 -- the word as it is written
 abbrev pub text_of_name : Name → List ℕ
 text_of_name names.Fix = codes "fix"
+text_of_name names.Nil = codes "nil"
+text_of_name names.Move = codes "move"
 text_of_name names.Cons = codes "cons"
+text_of_name names.Vector = codes "vector"
+text_of_name names.Instance = codes "instance"
+text_of_name names.Closure = codes "closure"
+text_of_name names.Words = codes "words"
 text_of_name names.Get = codes "get"
 text_of_name names.Put = codes "put"
+text_of_name names.RawGet = codes "rawget"
+text_of_name names.RawPut = codes "rawput"
+text_of_name names.Eq = codes "eq"
 text_of_name names.Show = codes "show"
+text_of_name names.Addr = codes "addr"
+text_of_name names.Raw = codes "raw"
+text_of_name names.Add = codes "add"
+text_of_name names.Page = codes "page"
+text_of_name names.Nogc = codes "nogc"
+text_of_name names.Gcok = codes "gcok"
 
 abbrev pub text_of : Keyword → List ℕ
 text_of keywords.Lispheap = codes "lispheap"

@@ -1,23 +1,24 @@
-//! Lisp cells: of any field, and in their usual spelling, with one space before them and a space or
-//! an LF after them, which is read without a search for the field's end.
+//! Lisp cells and raw cells: of any field, and in their usual spelling, with one space before them
+//! and a space or an LF after them, which is read without a search for the field's end.
 
-ghost use Rattle.std.specs.Prelude.{◌≡◌, ℕ, ◌+◌, ◌-◌, ◌<◌, Some, IfSome, ok_or, take, drop};
-ghost use Rattle.heap_terms.specs.Fields.{cell_number, cell_of};
+ghost use Rattle.std.specs.Prelude.{◌≡◌, ℕ, ◌+◌, ◌-◌, ◌<◌, ◌≤◌, Some, IfSome, ok_or, take, drop};
+ghost use Rattle.heap_terms.specs.Fields.{cell_number, cell_of, raw_cell_of};
 ghost use Rattle.heap_terms.specs.declared.faults.Why.TheVariants.{Form};
-ghost use Rattle.script_text.specs.Commands.{Reads, a_cell};
+ghost use Rattle.script_text.specs.Commands.{Reads, a_cell, a_raw_cell};
 ghost use Rattle.script_text.specs.Left.{field_len};
 
 use crate::fields::ends_plainly;
 use crate::numbers::number;
-use heap_terms::{CELLS, Cell, Why};
+use heap_terms::{CELLS, Cell, RAW_CELLS, Raw, Why};
 
-/// The number of a Lisp cell: below 16, and with no leading zero.
+/// The number of a cell: below a limit, and with no leading zero.
 #[tactic(auto, unfolding(heap_terms::specs::Fields::cell_number))]
-fn number_of_cell(digits: &[u8]) -> Option<u8>
-    ensures { result ≡ cell_number CELLS digits.now }
+fn number_of_cell(digits: &[u8], limit: u32) -> Option<u8>
+    requires { limit ≤ 256 }
+    ensures { result ≡ cell_number limit digits.now }
 {
     let n = number(digits)?;
-    if n < u64::from(CELLS) && (digits.len() == 1 || !matches!(digits, [b'0', ..])) {
+    if n < u64::from(limit) && (digits.len() == 1 || !matches!(digits, [b'0', ..])) {
         Some(n as u8)
     } else {
         None
@@ -32,7 +33,7 @@ pub(crate) fn cell(field: &[u8]) -> Result<Cell, Why>
     let [kind, digits @ ..] = field else {
         return Err(Why::Form);
     };
-    let Some(n) = number_of_cell(digits) else {
+    let Some(n) = number_of_cell(digits, CELLS) else {
         return Err(Why::Form);
     };
     match *kind {
@@ -40,6 +41,20 @@ pub(crate) fn cell(field: &[u8]) -> Result<Cell, Why>
         b'b' => Ok(Cell::Exact(n)),
         b'g' => Ok(Cell::Shared(n)),
         _ => Err(Why::Form),
+    }
+}
+
+/// A raw cell.
+#[tactic(auto, unfolding(heap_terms::specs::Fields::raw_cell_of))]
+pub(crate) fn raw_cell(field: &[u8]) -> Result<Raw, Why>
+    ensures { result ≡ ok_or (raw_cell_of field.now) Form }
+{
+    let [b'r', digits @ ..] = field else {
+        return Err(Why::Form);
+    };
+    match number_of_cell(digits, RAW_CELLS) {
+        Some(n) => Ok(Raw(n)),
+        None => Err(Why::Form),
     }
 }
 
@@ -84,4 +99,20 @@ pub(crate) fn plain_cell(rest: &[u8]) -> Option<(Cell, &[u8])>
         b'g' => Some((Cell::Shared(n), after)),
         _ => None,
     }
+}
+
+/// A raw cell in its usual spelling, and the bytes after it.
+#[inline(always)]
+pub(crate) fn plain_raw_cell(rest: &[u8]) -> Option<(Raw, &[u8])>
+    ensures { IfSome result (λ f. Reads a_raw_cell rest.now f.0 f.1.now) }
+{
+    if rest.len() < 4 || rest[0] != b' ' || rest[1] != b'r' {
+        return None;
+    }
+    let digit = rest[2];
+    if digit < b'0' || digit > b'7' || !ends_plainly(rest[3]) {
+        return None;
+    }
+    let (_, after) = rest.split_at(3);
+    Some((Raw(digit - b'0'), after))
 }

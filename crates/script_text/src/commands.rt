@@ -6,9 +6,9 @@ ghost use Rattle.script_text.specs.Commands.{front_command, field_count, does, I
 ghost use Rattle.script_text.specs.Left.{fields_left, lines_after};
 ghost use Rattle.script_text.specs.Words.{text_of_name};
 
-use crate::cells::plain_cell;
+use crate::cells::{plain_cell, plain_raw_cell};
 use crate::cursor::Cursor;
-use crate::numbers::{page_count, plain_fixnum, plain_index, version};
+use crate::numbers::{page_count, plain_fixnum, plain_index, plain_signed, version};
 use crate::words::{Name, plain_name};
 use heap_terms::{Command, Why};
 
@@ -18,9 +18,18 @@ impl Name {
         ensures { result ≡ field_count self }
     {
         match self {
-            Name::Show => 1,
-            Name::Fix => 2,
-            Name::Cons | Name::Get | Name::Put => 3,
+            Name::Nogc | Name::Gcok => 0,
+            Name::Nil | Name::Show | Name::Page => 1,
+            Name::Fix
+            | Name::Move
+            | Name::Vector
+            | Name::Instance
+            | Name::Closure
+            | Name::Eq
+            | Name::Addr
+            | Name::Raw
+            | Name::Add => 2,
+            Name::Cons | Name::Words | Name::Get | Name::Put | Name::RawGet | Name::RawPut => 3,
         }
     }
 }
@@ -58,11 +67,41 @@ fn front(name: Name, left: &mut Cursor) -> Result<Command, Why>
             let n = left.fixnum()?;
             Ok(Command::Fix { d, n })
         }
+        Name::Nil => {
+            let d = left.cell()?;
+            Ok(Command::MakeNil { d })
+        }
+        Name::Move => {
+            let d = left.cell()?;
+            let c = left.cell()?;
+            Ok(Command::Move { d, c })
+        }
         Name::Cons => {
             let d = left.cell()?;
             let a = left.cell()?;
             let b = left.cell()?;
             Ok(Command::NewCons { d, a, b })
+        }
+        Name::Vector => {
+            let d = left.cell()?;
+            let n = left.index()?;
+            Ok(Command::NewVector { d, n })
+        }
+        Name::Instance => {
+            let d = left.cell()?;
+            let n = left.index()?;
+            Ok(Command::NewInstance { d, n })
+        }
+        Name::Closure => {
+            let d = left.cell()?;
+            let n = left.index()?;
+            Ok(Command::NewClosure { d, n })
+        }
+        Name::Words => {
+            let d = left.cell()?;
+            let n = left.index()?;
+            let w = left.raw_word()?;
+            Ok(Command::NewWords { d, n, w })
         }
         Name::Get => {
             let d = left.cell()?;
@@ -76,10 +115,48 @@ fn front(name: Name, left: &mut Cursor) -> Result<Command, Why>
             let a = left.cell()?;
             Ok(Command::Put { c, i, a })
         }
+        Name::RawGet => {
+            let r = left.raw_cell()?;
+            let c = left.cell()?;
+            let i = left.index()?;
+            Ok(Command::RawGet { r, c, i })
+        }
+        Name::RawPut => {
+            let c = left.cell()?;
+            let i = left.index()?;
+            let r = left.raw_cell()?;
+            Ok(Command::RawPut { c, i, r })
+        }
+        Name::Eq => {
+            let a = left.cell()?;
+            let b = left.cell()?;
+            Ok(Command::Same { a, b })
+        }
         Name::Show => {
             let c = left.cell()?;
             Ok(Command::Show { c })
         }
+        Name::Addr => {
+            let r = left.raw_cell()?;
+            let c = left.cell()?;
+            Ok(Command::Addr { r, c })
+        }
+        Name::Raw => {
+            let r = left.raw_cell()?;
+            let w = left.raw_word()?;
+            Ok(Command::SetRaw { r, w })
+        }
+        Name::Add => {
+            let r = left.raw_cell()?;
+            let k = left.signed()?;
+            Ok(Command::AddRaw { r, k })
+        }
+        Name::Page => {
+            let p = left.wide()?;
+            Ok(Command::ShowPage { p })
+        }
+        Name::Nogc => Ok(Command::Inhibit),
+        Name::Gcok => Ok(Command::Allow),
     }
 }
 
@@ -161,6 +238,107 @@ fn plain_show(rest: &[u8]) -> Option<(Command, &[u8])>
     Some((Command::Show { c }, rest))
 }
 
+/// The field of a `nil` in their usual spelling, and the bytes after them.
+#[inline(always)]
+fn plain_nil(rest: &[u8]) -> Option<(Command, &[u8])>
+    ensures { IfSome result (λ f. IsFront Name.Nil rest.now f.0 f.1.now) }
+{
+    let (d, rest) = plain_cell(rest)?;
+    Some((Command::MakeNil { d }, rest))
+}
+
+/// The fields of a `move` in their usual spelling, and the bytes after them.
+#[inline(always)]
+fn plain_move(rest: &[u8]) -> Option<(Command, &[u8])>
+    ensures { IfSome result (λ f. IsFront Name.Move rest.now f.0 f.1.now) }
+{
+    let (d, rest) = plain_cell(rest)?;
+    let (c, rest) = plain_cell(rest)?;
+    Some((Command::Move { d, c }, rest))
+}
+
+/// The fields of a `vector` in their usual spelling, and the bytes after them.
+#[inline(always)]
+fn plain_vector(rest: &[u8]) -> Option<(Command, &[u8])>
+    ensures { IfSome result (λ f. IsFront Name.Vector rest.now f.0 f.1.now) }
+{
+    let (d, rest) = plain_cell(rest)?;
+    let (n, rest) = plain_index(rest)?;
+    Some((Command::NewVector { d, n }, rest))
+}
+
+/// The fields of an `instance` in their usual spelling, and the bytes after them.
+#[inline(always)]
+fn plain_instance(rest: &[u8]) -> Option<(Command, &[u8])>
+    ensures { IfSome result (λ f. IsFront Name.Instance rest.now f.0 f.1.now) }
+{
+    let (d, rest) = plain_cell(rest)?;
+    let (n, rest) = plain_index(rest)?;
+    Some((Command::NewInstance { d, n }, rest))
+}
+
+/// The fields of a `closure` in their usual spelling, and the bytes after them.
+#[inline(always)]
+fn plain_closure(rest: &[u8]) -> Option<(Command, &[u8])>
+    ensures { IfSome result (λ f. IsFront Name.Closure rest.now f.0 f.1.now) }
+{
+    let (d, rest) = plain_cell(rest)?;
+    let (n, rest) = plain_index(rest)?;
+    Some((Command::NewClosure { d, n }, rest))
+}
+
+/// The fields of a `rawget` in their usual spelling, and the bytes after them.
+#[inline(always)]
+fn plain_rawget(rest: &[u8]) -> Option<(Command, &[u8])>
+    ensures { IfSome result (λ f. IsFront Name.RawGet rest.now f.0 f.1.now) }
+{
+    let (r, rest) = plain_raw_cell(rest)?;
+    let (c, rest) = plain_cell(rest)?;
+    let (i, rest) = plain_index(rest)?;
+    Some((Command::RawGet { r, c, i }, rest))
+}
+
+/// The fields of a `rawput` in their usual spelling, and the bytes after them.
+#[inline(always)]
+fn plain_rawput(rest: &[u8]) -> Option<(Command, &[u8])>
+    ensures { IfSome result (λ f. IsFront Name.RawPut rest.now f.0 f.1.now) }
+{
+    let (c, rest) = plain_cell(rest)?;
+    let (i, rest) = plain_index(rest)?;
+    let (r, rest) = plain_raw_cell(rest)?;
+    Some((Command::RawPut { c, i, r }, rest))
+}
+
+/// The fields of an `eq` in their usual spelling, and the bytes after them.
+#[inline(always)]
+fn plain_eq(rest: &[u8]) -> Option<(Command, &[u8])>
+    ensures { IfSome result (λ f. IsFront Name.Eq rest.now f.0 f.1.now) }
+{
+    let (a, rest) = plain_cell(rest)?;
+    let (b, rest) = plain_cell(rest)?;
+    Some((Command::Same { a, b }, rest))
+}
+
+/// The fields of an `addr` in their usual spelling, and the bytes after them.
+#[inline(always)]
+fn plain_addr(rest: &[u8]) -> Option<(Command, &[u8])>
+    ensures { IfSome result (λ f. IsFront Name.Addr rest.now f.0 f.1.now) }
+{
+    let (r, rest) = plain_raw_cell(rest)?;
+    let (c, rest) = plain_cell(rest)?;
+    Some((Command::Addr { r, c }, rest))
+}
+
+/// The fields of an `add` in their usual spelling, and the bytes after them.
+#[inline(always)]
+fn plain_add(rest: &[u8]) -> Option<(Command, &[u8])>
+    ensures { IfSome result (λ f. IsFront Name.Add rest.now f.0 f.1.now) }
+{
+    let (r, rest) = plain_raw_cell(rest)?;
+    let (k, rest) = plain_signed(rest)?;
+    Some((Command::AddRaw { r, k }, rest))
+}
+
 /// The command of the fields at the front in their usual spelling, and the bytes after them.
 #[inline(always)]
 fn plain_front(name: Name, rest: &[u8]) -> Option<(Command, &[u8])>
@@ -168,10 +346,21 @@ fn plain_front(name: Name, rest: &[u8]) -> Option<(Command, &[u8])>
 {
     match name {
         Name::Fix => plain_fix(rest),
+        Name::Nil => plain_nil(rest),
+        Name::Move => plain_move(rest),
         Name::Cons => plain_cons(rest),
+        Name::Vector => plain_vector(rest),
+        Name::Instance => plain_instance(rest),
+        Name::Closure => plain_closure(rest),
         Name::Get => plain_get(rest),
         Name::Put => plain_put(rest),
+        Name::RawGet => plain_rawget(rest),
+        Name::RawPut => plain_rawput(rest),
+        Name::Eq => plain_eq(rest),
         Name::Show => plain_show(rest),
+        Name::Addr => plain_addr(rest),
+        Name::Add => plain_add(rest),
+        Name::Words | Name::Raw | Name::Page | Name::Nogc | Name::Gcok => None,
     }
 }
 

@@ -5,16 +5,17 @@ ghost use Rattle.std.specs.Str.Lines.{lines};
 ghost use Rattle.heap_terms.specs.Fields.{turns_of};
 ghost use Rattle.heap_terms.specs.declared.faults.Why.TheVariants.{Fields};
 ghost use Rattle.script_text.specs.ReaderAnswers.{only_field};
-ghost use Rattle.script_text.specs.Commands.{Moved, but_first, in_first, a_cell, an_index, a_fixnum, SaysCommand};
+ghost use Rattle.script_text.specs.Commands.{Moved, but_first, in_first, a_cell, an_index, a_fixnum, a_signed, a_wide, a_raw_cell, a_raw_word, SaysCommand};
 ghost use Rattle.script_text.specs.Left.{Taken, NoneLeft, fields_left, lines_after};
 ghost use Rattle.script_text.specs.Values.{one_by_one};
 
-use crate::cells::cell;
+use crate::cells::{cell, raw_cell};
 use crate::commands::plain_command;
 use crate::fields::{len_of_field, without_blanks};
-use crate::numbers::{fixnum, number_up_to};
+use crate::numbers::{fixnum, number_up_to, signed};
+use crate::raw_words::raw_word;
 use crate::turns::{Turns, plain_digit, turns_in};
-use heap_terms::{Cell, Command, MOST_ELEMENTS, Why};
+use heap_terms::{Cell, Command, MOST_ELEMENTS, Raw, Why};
 use std::marker::Model;
 
 /// Where the bytes are that are not read yet.
@@ -135,6 +136,42 @@ impl<'a> Cursor<'a> {
     {
         let field = self.field()?;
         fixnum(field)
+    }
+
+    /// A signed number of 64 bits.
+    pub(crate) fn signed(&mut self) -> Result<i64, Why>
+        ensures value { result ≡ in_first a_signed (fields_left self.old) }
+        ensures moved { OnOk result (Moved self.old self.new) }
+    {
+        let field = self.field()?;
+        signed(field)
+    }
+
+    /// A number of 32 bits.
+    pub(crate) fn wide(&mut self) -> Result<u32, Why>
+        ensures value { result ≡ in_first a_wide (fields_left self.old) }
+        ensures moved { OnOk result (Moved self.old self.new) }
+    {
+        let field = self.field()?;
+        number_up_to(field, u32::MAX)
+    }
+
+    /// A raw cell.
+    pub(crate) fn raw_cell(&mut self) -> Result<Raw, Why>
+        ensures value { result ≡ in_first a_raw_cell (fields_left self.old) }
+        ensures moved { OnOk result (Moved self.old self.new) }
+    {
+        let field = self.field()?;
+        raw_cell(field)
+    }
+
+    /// A raw word.
+    pub(crate) fn raw_word(&mut self) -> Result<u64, Why>
+        ensures value { result ≡ in_first a_raw_word (fields_left self.old) }
+        ensures moved { OnOk result (Moved self.old self.new) }
+    {
+        let field = self.field()?;
+        raw_word(field)
     }
 
     /// Goes to the line after this one.

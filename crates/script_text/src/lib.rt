@@ -9,6 +9,7 @@ mod faults;
 mod fields;
 mod numbers;
 mod printing;
+mod raw_words;
 mod reader;
 mod schedules;
 #[cfg(test)]

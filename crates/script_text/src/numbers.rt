@@ -5,8 +5,8 @@ ghost use Rattle.std.specs.Prelude.{◌≡◌, ◌-◌, ◌^◌, ◌≤◌, min,
 ghost use Rattle.std.specs.Char.{is_digit};
 ghost use Rattle.std.specs.List.{list_all};
 ghost use Rattle.std.specs.Str.Parse.{digits_value};
-ghost use Rattle.heap_terms.specs.Fields.{number_of, ranged, between, at_most, is_fixnum, signed_of};
-ghost use Rattle.script_text.specs.Commands.{Reads, an_index, a_fixnum};
+ghost use Rattle.heap_terms.specs.Fields.{number_of, ranged, between, at_most, is_fixnum, is_i64, signed_of};
+ghost use Rattle.script_text.specs.Commands.{Reads, an_index, a_fixnum, a_signed};
 ghost use Rattle.script_text.specs.Values.{pages_of, NumberAt};
 
 use crate::fields::ends_plainly;
@@ -123,6 +123,52 @@ pub(crate) fn fixnum(field: &[u8]) -> Result<i64, Why>
     }
 }
 
+/// A signed number of 64 bits without a sign.
+fn signed_from_zero(digits: &[u8]) -> Result<i64, Why>
+    ensures { result ≡ ranged is_i64 (option_map pos (number_of digits.now)) }
+{
+    match number(digits) {
+        None => Err(Why::Form),
+        Some(n) => {
+            if n <= i64::MAX as u64 {
+                Ok(n as i64)
+            } else {
+                Err(Why::Range)
+            }
+        }
+    }
+}
+
+/// A signed number of 64 bits behind a `-`.
+fn signed_below_zero(digits: &[u8]) -> Result<i64, Why>
+    ensures { result ≡ ranged is_i64 (option_map (λ n. neg_ℤ (pos n)) (number_of digits.now)) }
+{
+    match number(digits) {
+        None => Err(Why::Form),
+        Some(n) => {
+            if n <= i64::MAX as u64 {
+                Ok(-(n as i64))
+            } else if n == i64::MAX as u64 + 1 {
+                Ok(i64::MIN)
+            } else {
+                Err(Why::Range)
+            }
+        }
+    }
+}
+
+/// A signed number of 64 bits.
+#[tactic(auto, unfolding(heap_terms::specs::Fields::signed_of))]
+pub(crate) fn signed(field: &[u8]) -> Result<i64, Why>
+    ensures { result ≡ ranged is_i64 (signed_of field.now) }
+{
+    match field {
+        [] => Err(Why::Form),
+        [b'-', digits @ ..] => signed_below_zero(digits),
+        [_, ..] => signed_from_zero(field),
+    }
+}
+
 /// Where a number in its usual spelling may grow to another digit: below 10^17, so that no sum of
 /// its digits passes the largest fixnum.
 const MOST_TO_GROW: u64 = 100_000_000_000_000_000;
@@ -185,4 +231,14 @@ pub(crate) fn plain_fixnum(rest: &[u8]) -> Option<(i64, &[u8])>
     let (_, digits) = rest.split_at(1);
     let (n, after) = plain_number(digits)?;
     Some((n as i64, after))
+}
+
+/// A signed number of 64 bits in its usual spelling, and the bytes after it. Those that are no
+/// fixnum are left out.
+#[inline(always)]
+#[tactic(auto, using(crate::proofs::Numbered::signed_read))]
+pub(crate) fn plain_signed(rest: &[u8]) -> Option<(i64, &[u8])>
+    ensures { IfSome result (λ f. Reads a_signed rest.now f.0 f.1.now) }
+{
+    plain_fixnum(rest)
 }

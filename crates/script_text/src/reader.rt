@@ -1,10 +1,10 @@
 //! What the lines so far say.
 
-ghost use Rattle.std.specs.Prelude.{◌≡◌, ◌<◌, ◌≤◌, ◌-◌, ◌^◌, ℕ, IsTrue, OnOk, OnErr, Ok, length, min, ok_or};
+ghost use Rattle.std.specs.Prelude.{◌≡◌, ◌<◌, ◌≤◌, ◌-◌, ◌^◌, ℕ, true, IsTrue, OnOk, OnErr, Ok, length, min, ok_or};
 ghost use Rattle.heap_terms.specs.Grammar.{Version, HeapOf, NewThread, Does, EndOfScript, schedule_of, statement_of};
 ghost use Rattle.heap_terms.specs.ScriptReading.{within_limits, judged, judged_word, nothing_read, onto_last, finished, LineFault as MadeAt};
 ghost use Rattle.heap_terms.specs.declared.faults.Why.TheVariants.{Missing};
-ghost use Rattle.heap_terms.specs.Valid.{is_gc};
+ghost use Rattle.heap_terms.specs.Valid.{is_built, is_gc};
 ghost use Rattle.script_text.specs.ReaderAnswers.{IsJudged};
 ghost use Rattle.script_text.specs.Left.{fields_left, lines_after};
 ghost use Rattle.script_text.specs.Words.{text_of};
@@ -187,6 +187,7 @@ impl Reader {
     /// A line with its word, wherever it stands.
     #[tactic(auto, unfolding(heap_terms::specs::ScriptReading::judged_word))]
     fn placed(&mut self, alloc: Global, word: Keyword, left: &mut Cursor) -> Result<(), LineFault>
+        requires { is_built (text_of word) ≡ true }
         ensures judged { IsJudged result self.new (judged_word self.old (text_of word) (fields_left left.old)) }
         ensures lines { OnOk result (lines_after left.new ≡ lines_after left.old) }
     {

@@ -1,7 +1,7 @@
 //! The words with which lines begin, and where such a line may stand. The name of a command is also
 //! read in its usual spelling, at the very front of the line and with one space after it.
 
-ghost use Rattle.std.specs.Prelude.{◌≡◌, ◌-◌, false, take, MatchOption, IfSome};
+ghost use Rattle.std.specs.Prelude.{◌≡◌, ◌-◌, true, false, take, MatchOption, IfSome};
 ghost use Rattle.heap_terms.specs.ScriptReading.{may_follow};
 ghost use Rattle.heap_terms.specs.Valid.{is_built};
 ghost use Rattle.script_text.specs.Left.{IsSpelled, Taken};
@@ -11,10 +11,25 @@ ghost use Rattle.script_text.specs.Words.{text_of, text_of_name, place_of};
 #[derive(Clone, Copy)]
 pub(crate) enum Name {
     Fix,
+    Nil,
+    Move,
     Cons,
+    Vector,
+    Instance,
+    Closure,
+    Words,
     Get,
     Put,
+    RawGet,
+    RawPut,
+    Eq,
     Show,
+    Addr,
+    Raw,
+    Add,
+    Page,
+    Nogc,
+    Gcok,
 }
 
 /// The word of a line.
@@ -30,7 +45,7 @@ pub(crate) enum Keyword {
 
 /// What a word means, if a line may begin with it.
 pub(crate) fn meaning_of(word: &[u8]) -> Option<Keyword>
-    ensures { MatchOption result (is_built word.now ≡ false) (λ k. word.now ≡ text_of k) }
+    ensures { MatchOption result (is_built word.now ≡ false) (λ k. (word.now ≡ text_of k) × (is_built (text_of k) ≡ true)) }
 {
     match word {
         b"cons" => Some(Keyword::Command(Name::Cons)),
@@ -58,11 +73,11 @@ fn plain_word<'a, const N: usize>(rest: &'a [u8], spelled: &[u8; N]) -> Option<&
     Some(after)
 }
 
-/// The name of a command with a space after it, and the bytes from that space on. No two names
-/// begin with one byte.
+/// The name of a command that is built, with a space after it, and the bytes from that space on.
 #[inline(always)]
 pub(crate) fn plain_name(rest: &[u8]) -> Option<(Name, &[u8])>
-    ensures { IfSome result (λ f. Taken rest.now (text_of_name f.0) f.1.now) }
+    ensures taken { IfSome result (λ f. Taken rest.now (text_of_name f.0) f.1.now) }
+    ensures built { IfSome result (λ f. is_built (text_of_name f.0) ≡ true) }
 {
     if rest.is_empty() {
         return None;
