@@ -12,7 +12,9 @@ use Rattle.heap_terms.specs.declared.steps.StepAnswer.TheVariants.{Went, Inside,
 use Rattle.heap_terms.specs.declared.steps.WordStep.{WordStep}
 use Rattle.heap_terms.specs.Heap.{NamedHeap, thread_at}
 use Rattle.heap_terms.specs.Histories.{IsNext, next, replay, thread_of}
-use Rattle.heap_terms.specs.Phases.{Task, Walk, Happen, Rest, collects, is_over, task_at, went, walked, happened}
+use Rattle.heap_terms.specs.declared.phases.Task.{Task}
+use Rattle.heap_terms.specs.declared.phases.Task.TheVariants.{Walk, Happen, Rest}
+use Rattle.heap_terms.specs.Phases.{collects, is_over, task_at, went, walked, happened}
 use Rattle.heap_terms.specs.WordMachine.{answer_at, words_after}
 
 -- What has happened so far, who holds the turn, the word of each thread, and its phase. The named heap is the replay of

@@ -6,16 +6,12 @@ use Rattle.heap_terms.specs.declared.pages.Next.{Next}
 use Rattle.heap_terms.specs.declared.pages.Next.TheVariants as nexts
 use Rattle.heap_terms.specs.declared.phases.Phase.{Phase}
 use Rattle.heap_terms.specs.declared.phases.Phase.TheVariants.{Parked, Outside, Inside, Leaving, Parking, Posting, Looking, Collecting, Releasing, Returning, Ended}
+use Rattle.heap_terms.specs.declared.phases.Task.{Task}
+use Rattle.heap_terms.specs.declared.phases.Task.TheVariants.{Walk, Happen, Rest}
 use Rattle.heap_terms.specs.declared.steps.StepAnswer.{StepAnswer}
 use Rattle.heap_terms.specs.declared.steps.StepAnswer.TheVariants as answers
 use Rattle.heap_terms.specs.declared.steps.WordStep.{WordStep}
 use Rattle.heap_terms.specs.declared.steps.WordStep.TheVariants as steps
-
--- what a thread does at its turn: a word step, an event of the heap, or nothing
-pub data Task : Type 0 where
-  Walk : WordStep → Task
-  Happen : Task
-  Rest : Task
 
 -- a collection comes next
 abbrev pub collects : Next → Bool

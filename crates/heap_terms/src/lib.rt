@@ -31,6 +31,6 @@ pub use limits::{
 };
 pub use lists::{Ids, Seq};
 pub use pages::{Entry, Next};
-pub use phases::Phase;
+pub use phases::{Phase, Task};
 pub use programs::{Program, Scripts, Turns};
 pub use steps::{Owned, ReplayLine, StepAnswer, WordLine, WordStep};

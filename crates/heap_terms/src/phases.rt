@@ -1,4 +1,6 @@
-//! The phases of a thread in the word machine.
+//! The phases of a thread in the word machine, and what it does at them.
+
+use crate::steps::WordStep;
 
 /// What a thread is at. It decides which step the thread does next.
 #[derive(Clone, Copy, Debug, PartialEq, Eq)]
@@ -34,4 +36,15 @@ pub enum Phase {
     Returning,
     /// Has parked for the last time.
     Ended,
+}
+
+/// What a thread does at its turn.
+#[derive(Clone, Copy, Debug, PartialEq, Eq)]
+pub enum Task {
+    /// One step of the word machine.
+    Walk(WordStep),
+    /// One event of the heap.
+    Happen,
+    /// Nothing: the thread is at its end.
+    Rest,
 }

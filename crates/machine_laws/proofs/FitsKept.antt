@@ -12,7 +12,9 @@ use Rattle.heap_terms.specs.declared.steps.WordStep.{WordStep}
 use Rattle.heap_terms.specs.Heap.{NamedHeap, thread_at}
 use Rattle.heap_terms.specs.Histories.{Lawful, replay, after, next, thread_of}
 use Rattle.heap_terms.specs.MachineTurns.{Configuration, phase_of, is_due, has_ended, opens, stays_inside, Does, IsTurn, answer_in, Walks, HasEvent}
-use Rattle.heap_terms.specs.Phases.{Task, Walk, Happen, Rest, collects, is_over, task_at, walked, happened, went, looking_from, posting_from, releasing_from}
+use Rattle.heap_terms.specs.declared.phases.Task.{Task}
+use Rattle.heap_terms.specs.declared.phases.Task.TheVariants.{Walk, Happen, Rest}
+use Rattle.heap_terms.specs.Phases.{collects, is_over, task_at, walked, happened, went, looking_from, posting_from, releasing_from}
 use Rattle.heap_laws.specs.Limited.{IsLimited}
 use Rattle.heap_laws.proofs.EventSteps.{history-kept}
 use Rattle.heap_laws.proofs.NextEvents.{Lawful-push, replay-push}

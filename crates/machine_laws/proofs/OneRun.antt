@@ -14,7 +14,9 @@ use Rattle.heap_terms.specs.declared.steps.ReplayLine.{ReplayLine}
 use Rattle.heap_terms.specs.Heap.{NamedHeap}
 use Rattle.heap_terms.specs.Histories.{IsNext, next, replay, thread_of}
 use Rattle.heap_terms.specs.MachineTurns.{Configuration, machine_start, phase_of, is_due, stays_inside, Does, IsTurn, IsStill}
-use Rattle.heap_terms.specs.Phases.{Task, Walk, Happen, Rest, task_at, happened}
+use Rattle.heap_terms.specs.declared.phases.Task.{Task}
+use Rattle.heap_terms.specs.declared.phases.Task.TheVariants.{Walk, Happen, Rest}
+use Rattle.heap_terms.specs.Phases.{task_at, happened}
 use Rattle.heap_terms.specs.Runs.{AreTurns, rounds_of, IsRun}
 use Rattle.heap_terms.specs.Text.{journal_text}
 use Rattle.heap_terms.specs.WordText.{run_text}

@@ -11,7 +11,8 @@ use Rattle.heap_terms.specs.declared.steps.WordStep.TheVariants.{Resume, Enter, 
 use Rattle.heap_terms.specs.Heap.{Thread, thread_at, ended_thread, fresh_thread}
 use Rattle.heap_terms.specs.Histories.{replay}
 use Rattle.heap_terms.specs.MachineTurns.{Configuration, phase_of, is_due, has_ended}
-use Rattle.heap_terms.specs.Phases.{Walk, task_at}
+use Rattle.heap_terms.specs.declared.phases.Task.TheVariants.{Walk}
+use Rattle.heap_terms.specs.Phases.{task_at}
 use Rattle.heap_terms.specs.WellFormed.{IsWellFormed}
 use Rattle.heap_terms.specs.WordMachine.{has, MayStep}
 use Rattle.heap_laws.specs.Limited.{IsLimited}

@@ -13,7 +13,9 @@ use Rattle.heap_terms.specs.declared.steps.WordStep.{WordStep}
 use Rattle.heap_terms.specs.declared.steps.WordStep.TheVariants.{Resume, Enter, Leave, Park, Claim, Post, Look, Release, Return}
 use Rattle.heap_terms.specs.Histories.{replay}
 use Rattle.heap_terms.specs.MachineTurns.{Configuration, phase_of, is_due, has_ended, Does, IsTurn, answer_in, Walks, HasEvent}
-use Rattle.heap_terms.specs.Phases.{Task, Walk, Happen, Rest, task_at, walked, went, looking_from, posting_from, releasing_from}
+use Rattle.heap_terms.specs.declared.phases.Task.{Task}
+use Rattle.heap_terms.specs.declared.phases.Task.TheVariants.{Walk, Happen, Rest}
+use Rattle.heap_terms.specs.Phases.{task_at, walked, went, looking_from, posting_from, releasing_from}
 use Rattle.heap_terms.specs.WordMachine.{answer, becomes, has}
 use Rattle.heap_laws.specs.Limited.{IsLimited}
 use Rattle.heap_laws.specs.Remaining.{all_left}

@@ -3,7 +3,8 @@ use Rattle.std.specs.Prelude.{◌≡◌, true, false, []}
 use Rattle.heap_terms.specs.declared.phases.Phase.TheVariants.{Parked, Outside, Inside, Leaving, Parking, Posting, Looking, Collecting, Releasing, Returning, Ended}
 use Rattle.heap_terms.specs.declared.steps.StepAnswer.TheVariants as answers
 use Rattle.heap_terms.specs.declared.steps.WordStep.TheVariants as steps
-use Rattle.heap_terms.specs.Phases.{Walk, Happen, Rest, task_at, went, walked, happened}
+use Rattle.heap_terms.specs.declared.phases.Task.TheVariants.{Walk, Happen, Rest}
+use Rattle.heap_terms.specs.Phases.{task_at, went, walked, happened}
 use Rattle.heap_terms.specs.MachineTurns.{step_lines}
 
 -- what is done at each phase; outside that goes by whether a collection is due

@@ -10,7 +10,8 @@ use Rattle.heap_terms.specs.Complete.{IsComplete}
 use Rattle.heap_terms.specs.Heap.{thread_at}
 use Rattle.heap_terms.specs.Histories.{replay}
 use Rattle.heap_terms.specs.MachineTurns.{Configuration, machine_start, phase_of, is_due, IsTurn}
-use Rattle.heap_terms.specs.Phases.{Walk, task_at}
+use Rattle.heap_terms.specs.declared.phases.Task.TheVariants.{Walk}
+use Rattle.heap_terms.specs.Phases.{task_at}
 use Rattle.heap_terms.specs.Runs.{AreTurns, IsRun}
 use Rattle.heap_terms.specs.WordMachine.{has, MayStep}
 use Rattle.heap_laws.specs.Limited.{IsLimited}
