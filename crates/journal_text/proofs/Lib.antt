@@ -1,0 +1,12 @@
+pub mod Binding
+pub mod Commands
+pub mod Cuts
+pub mod Exact
+pub mod HexDigits
+pub mod Lists
+pub mod Numerals
+pub mod Sequences
+pub mod Splitting
+pub mod Values
+pub mod Words
+pub mod WordsFound

@@ -1,0 +1,15 @@
+//! Reading a journal.
+
+mod answers;
+mod commands;
+mod cursor;
+mod faults;
+mod items;
+mod lines;
+mod numbers;
+mod openings;
+mod pieces;
+mod records;
+mod rows;
+mod values;
+mod words;
