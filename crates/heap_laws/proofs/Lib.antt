@@ -5,6 +5,7 @@ pub mod NextEvents
 pub mod EventSteps
 pub mod SoundHeaps
 pub mod Allocating
+pub mod Reading
 -- the lemmas themselves
 mod Lists
 mod Slots

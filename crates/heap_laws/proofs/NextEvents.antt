@@ -1,6 +1,6 @@
 -- For the crates above: what a thread does next, and histories that grow by an event. The statements stand where they
 -- are proved.
-pub use Rattle.heap_laws.proofs.Events.Causes.{next_parts, next_with_command, builds_for, simple_for, allocating_refused, collects_next, next_done}
+pub use Rattle.heap_laws.proofs.Events.Causes.{next_parts, next_with_command, builds_for, opens_for, simple_for, allocating_refused, collects_next, next_done}
 -- while nobody owes a collection nobody collects
 pub use Rattle.heap_laws.proofs.Events.Tasks.{OweNothing, never_collects, next_alive}
 pub use Rattle.heap_laws.proofs.Programs.OweNothing.{replay-owes, nobody_collects}

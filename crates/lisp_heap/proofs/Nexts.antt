@@ -1,26 +1,29 @@
 -- What a thread of a well-formed heap does next, and that what it builds has room in a parcel that agrees.
-use Rattle.std.proofs.Common.{◌≡◌, ℕ, ◌+◌, ◌*◌, ◌<◌, List, length, subst, ap, ◌∙◌, sym, refl, Option, Some, None, Bool, true, false, option_map, inl, inr}
-use Rattle.std.proofs.lemmas.Bool.{cases_lt}
+use Rattle.std.proofs.Common.{◌≡◌, ℕ, ◌+◌, ◌*◌, ◌<◌, ◌≤◌, List, length, subst, ap, ◌∙◌, sym, refl, Option, Some, None, Bool, true, false, option_map, inl, inr}
+use Rattle.std.proofs.lemmas.Bool.{cases_lt, le-leb}
 use Rattle.std.proofs.lemmas.List.{get_or_past}
 use Rattle.std.specs.Prelude.{if◌then◌else◌, ◌==◌}
 use Rattle.heap_terms.specs.declared.commands.Command.{Command}
-use Rattle.heap_terms.specs.declared.kinds.Kind.TheVariants as kinds
+use Rattle.heap_terms.specs.declared.kinds.Kind.{Kind}
 use Rattle.heap_terms.specs.declared.kinds.PageType.{PageType}
+use Rattle.heap_terms.specs.declared.kinds.PageType.TheVariants as types
 use Rattle.heap_terms.specs.declared.pages.Entry.{Entry}
 use Rattle.heap_terms.specs.declared.pages.Entry.TheVariants.{Free}
 use Rattle.heap_terms.specs.declared.pages.Next.TheVariants as nexts
 use Rattle.heap_terms.specs.declared.programs.Program.{Program}
 use Rattle.heap_terms.specs.Heap.{NamedHeap, Thread, thread_at, entry_at, fill_of, open_page}
 use Rattle.heap_terms.specs.Histories.{command_at, next, next_command, next_for, next_unless_due, due}
-use Rattle.heap_terms.specs.Layout.{page_words}
-use Rattle.heap_terms.specs.Regions.{Wish, wish_of, has_room}
-use Rattle.heap_terms.specs.Valid.{IsValid}
+use Rattle.heap_terms.specs.Layout.{page_words, page_type_of, size_of}
+use Rattle.heap_terms.specs.Regions.{Wish, Nothing, Make, wish_of, has_room, is_small, page_has_room}
+use Rattle.heap_terms.specs.Valid.{IsInRange}
 use Rattle.heap_terms.specs.WellFormed.{IsWellFormed, IsOpenPage}
 use Rattle.heap_laws.proofs.SoundHeaps.{open_page_used}
-use Rattle.heap_laws.proofs.ValidScripts.{script_wish}
 use Rattle.lisp_heap.specs.Agreement.{Agrees, CanBuild, small_out}
-use Rattle.lisp_heap.specs.ParcelView.{ParcelView, LeaseView, place_of}
-use Rattle.lisp_heap.proofs.Rooms.{some_place, has_room_in}
+use Rattle.lisp_heap.specs.ParcelView.{ParcelView, LeaseView, place_of, small_region}
+use Rattle.lisp_heap.specs.State.{state_of, state_page}
+use Rattle.lisp_heap.specs.declared.states.ThreadState.{ThreadState}
+use Rattle.lisp_heap.proofs.Rooms.{some_place, small_agrees, has_room_in}
+use Rattle.lisp_heap.proofs.Wanted.{wish_making}
 
 pub next_done : (p : Program) (a : NamedHeap) (t : ℕ) → (thread_at a t).ended ≡ true → nexts.Done ≡ next p a t
 unfolding next
@@ -56,22 +59,37 @@ pub lies_on : (r : LeaseView) (pages : List Entry) (page : ℕ) → r.first ≡ 
     r.next ≡ page_words * page + fill_of (entry_at pages page) → place_of r ≡ small_out pages page
 lies_on r pages page first one next_is = cc
 
--- the open region of conses in a parcel that agrees lies on the open page
-pub cons_region : (a : NamedHeap) (q : ParcelView) (page : ℕ) → Agrees a q → (thread_at a q.owner).cons_page ≡ Some page →
-    (r : LeaseView) × (q.cons ≡ Some r) × (place_of r ≡ small_out a.pages page)
-cons_region a q page agrees e =
-    some_place q.cons (small_out a.pages page) (agrees.cons ∙ ap (option_map (small_out a.pages)) e)
-
-can_build_cons : (p : Program) (a : NamedHeap) (t : ℕ) (q : ParcelView) → IsWellFormed p a → q.owner ≡ t → Agrees a q → (b : Bool) → has_room a t kinds.Cons 2 ≡ b →
-    CanBuild (if b then nexts.Build kinds.Cons 2 0 else nexts.Open) q
-can_build_cons p a t q wf owner agrees false e = tt
-can_build_cons p a t q wf owner agrees true e =
-    (has_room_in p a q kinds.Cons 2 wf agrees (ap (λ (u : ℕ). has_room a u kinds.Cons 2) owner ∙ e), (refl, refl))
+-- the open region of a type in a parcel that agrees lies on the open page
+pub small_on : (a : NamedHeap) (q : ParcelView) (ty : PageType) (page : ℕ) → Agrees a q → open_page (thread_at a q.owner) ty ≡ Some page →
+    (r : LeaseView) × (small_region q ty ≡ Some r) × (place_of r ≡ small_out a.pages page)
+small_on a q ty page agrees e =
+    some_place (small_region q ty) (small_out a.pages page) (small_agrees a q ty agrees ∙ ap (option_map (small_out a.pages)) e)
 
 -- what a thread builds next has room in its parcel
-pub can_build : (p : Program) (a : NamedHeap) (t : ℕ) (c : Command) (q : ParcelView) → IsWellFormed p a → IsValid p → command_at p a t ≡ Some c → q.owner ≡ t →
-    Agrees a q → CanBuild (next_for a t (wish_of c)) q
-can_build p a t c q wf valid at owner agrees = elim (script_wish p t (thread_at a t).done c valid at) [
-  | inl nothing ↦ subst (λ (w : Wish). CanBuild (next_for a t w) q) (sym nothing) tt
-  | inr cons ↦ subst (λ (w : Wish). CanBuild (next_for a t w) q) (sym cons) (can_build_cons p a t q wf owner agrees (has_room a t kinds.Cons 2) refl)
-]
+build_for : (p : Program) (a : NamedHeap) (t : ℕ) (c : Command) (q : ParcelView) → IsWellFormed p a → IsInRange c → q.owner ≡ t → Agrees a q →
+    (w : Wish) → wish_of c ≡ w → CanBuild (next_for a t w) q
+build_for p a t c q wf in_range owner agrees Nothing e = tt
+build_for p a t c q wf in_range owner agrees (Make kind n seed) e = by_room (has_room a t kind (size_of kind n)) refl
+  where
+    by_room : (b : Bool) → has_room a t kind (size_of kind n) ≡ b → CanBuild (if b then nexts.Build kind n seed else nexts.Open) q
+    by_room false room = tt
+    by_room true room =
+        (has_room_in p a q kind n wf agrees (ap (λ (u : ℕ). has_room a u kind (size_of kind n)) owner ∙ room), wish_making c kind n seed in_range e)
+
+pub can_build : (p : Program) (a : NamedHeap) (t : ℕ) (c : Command) (q : ParcelView) → IsWellFormed p a → IsInRange c → q.owner ≡ t → Agrees a q →
+    CanBuild (next_for a t (wish_of c)) q
+can_build p a t c q wf in_range owner agrees = build_for p a t c q wf in_range owner agrees (wish_of c) refl
+
+-- whether there is room, by a state of a thread
+state_page_is : (th : Thread) (ty : PageType) → state_page (state_of th) ty ≡ open_page th ty
+state_page_is th types.Cons = refl
+state_page_is th types.Boxed = refl
+state_page_is th types.Unboxed = refl
+
+pub room_small : (a : NamedHeap) (t : ℕ) (state : ThreadState) (kind : Kind) (size : ℕ) (b : Bool) → size ≤ page_words → state ≡ state_of (thread_at a t) →
+    b ≡ page_has_room a.pages (state_page state (page_type_of kind)) size → b ≡ has_room a t kind size
+room_small a t state kind size b fits known is =
+    let small : is_small size ≡ true = le-leb size page_words fits in
+    is ∙ ap (λ (x : ThreadState). page_has_room a.pages (state_page x (page_type_of kind)) size) known
+    ∙ ap (λ (o : Option ℕ). page_has_room a.pages o size) (state_page_is (thread_at a t) (page_type_of kind))
+    ∙ rw small refl

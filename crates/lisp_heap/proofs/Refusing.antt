@@ -1,5 +1,5 @@
 -- `!exhausted`: the command is answered, and nothing else changes.
-use Rattle.std.proofs.Common.{◌≡◌, ℕ, ◌+◌, ◌<◌, length, subst, ap, ◌∙◌, sym, refl, arith, Some, get_or}
+use Rattle.std.proofs.Common.{◌≡◌, ℕ, ◌+◌, ◌<◌, length, subst, ap, ◌∙◌, sym, refl, arith, Option, Some, get_or}
 use Rattle.heap_terms.specs.declared.answers.Answer.TheVariants as answers
 use Rattle.heap_terms.specs.declared.answers.Refusal.TheVariants.{Exhausted}
 use Rattle.heap_terms.specs.declared.commands.Command.{Command}
@@ -7,11 +7,11 @@ use Rattle.heap_terms.specs.declared.events.Event.TheVariants.{Did}
 use Rattle.heap_terms.specs.declared.pages.Next.{Next}
 use Rattle.heap_terms.specs.declared.pages.Next.TheVariants as nexts
 use Rattle.heap_terms.specs.Heap.{NamedHeap, thread_at}
-use Rattle.heap_terms.specs.Histories.{IsNext, IsAnswer, after, after_command, advance, command_at, next, wished_size}
-use Rattle.heap_terms.specs.declared.kinds.Kind.TheVariants as kinds
-use Rattle.heap_terms.specs.Outcome.{Outcome}
+use Rattle.heap_terms.specs.Histories.{IsNext, IsAnswer, after, after_command, advance, command_at, next, wish_at, wished_size}
+use Rattle.heap_terms.specs.Outcome.{Outcome, refused}
+use Rattle.heap_terms.specs.Outcomes.{outcome_of}
 use Rattle.heap_laws.proofs.NextEvents.{allocating_refused}
-use Rattle.heap_terms.specs.Regions.{HasNoRun, Wish, pages_needed, wish_of}
+use Rattle.heap_terms.specs.Regions.{HasNoRun, pages_needed, wish_of}
 use Rattle.lisp_heap.specs.Agreement.{Agrees}
 use Rattle.lisp_heap.specs.ParcelView.{ParcelView}
 use Rattle.lisp_heap.specs.WorldSound.{IsSound, parts_of}
@@ -23,22 +23,26 @@ use Rattle.lisp_heap.proofs.Agreeing.{Agrees-thread}
 use Rattle.lisp_heap.proofs.PerformLemmas.{Holds-thread}
 use Rattle.lisp_heap.proofs.Soundness.{heap, well_formed}
 use Rattle.lisp_heap.proofs.Unchanged.{state_read}
-use Rattle.lisp_heap.proofs.Wishing.{opens_cons}
+use Rattle.lisp_heap.proofs.Wanted.{opens_wish}
 
 module _ (s : Inside) (h : IsSound s) (t : ℕ) (c : Command) (lt : t < length s.program.threads)
     (at : command_at s.program (heap s) t ≡ Some c) (opens : next s.program (heap s) t ≡ nexts.Open) where
-  pub refused_next : HasNoRun (heap s).pages 1 → IsNext s.program (heap s) (Did t c (answers.Refused Exhausted))
+  refused_outcome : outcome_of (heap s) t c ≡ refused Exhausted (heap s)
+  refused_outcome =
+      let wish = opens_wish s.program (heap s) t c at opens in
+      allocating_refused (heap s) t c (wish.0) (wish.1) (wish.2) wish.3
+
+  pub refused_next : HasNoRun (heap s).pages (pages_needed (wished_size (wish_at (command_at s.program (heap s) t)))) →
+      IsNext s.program (heap s) (Did t c (answers.Refused Exhausted))
   unfolding IsNext
   refused_next none =
-      let wish = opens_cons s.program (heap s) t c h.valid at opens in
       let no_run : HasNoRun (heap s).pages (pages_needed (wished_size (wish_of c))) =
-      subst (λ (w : Wish). HasNoRun (heap s).pages (pages_needed (wished_size w))) (sym wish) none in
-      (at, subst (λ (n : Next). IsAnswer (heap s) t c (answers.Refused Exhausted) n) (sym opens) (ap (λ (o : Outcome). o.answer) (sym (allocating_refused (heap s) t c kinds.Cons 2 0 wish)), no_run))
+      subst (λ (o : Option Command). HasNoRun (heap s).pages (pages_needed (wished_size (wish_at o)))) at none in
+      (at, subst (λ (n : Next). IsAnswer (heap s) t c (answers.Refused Exhausted) n) (sym opens) (ap (λ (o : Outcome). o.answer) (sym refused_outcome), no_run))
 
   refused_after : after s.program (heap s) (Did t c (answers.Refused Exhausted)) ≡ advance (heap s) t
   unfolding after
-  refused_after = ap (after_command s.program (heap s) t c) opens
-      ∙ ap (λ (o : Outcome). advance o.heap t) (allocating_refused (heap s) t c kinds.Cons 2 0 (opens_cons s.program (heap s) t c h.valid at opens))
+  refused_after = ap (after_command s.program (heap s) t c) opens ∙ ap (λ (o : Outcome). advance o.heap t) refused_outcome
 
   pub refused_holds : Holds (after s.program (heap s) (Did t c (answers.Refused Exhausted))) (record (parts_of s) { states = advanced s.states t })
   refused_holds =

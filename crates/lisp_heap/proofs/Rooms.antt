@@ -22,7 +22,7 @@ pub some_place : (o : Option LeaseView) (x : RegionPlace) → option_map place_o
 some_place None x e = cc
 some_place (Some r) x e = (r, refl, cc)
 
-small_agrees : (a : NamedHeap) (q : ParcelView) (ty : PageType) → Agrees a q →
+pub small_agrees : (a : NamedHeap) (q : ParcelView) (ty : PageType) → Agrees a q →
     option_map place_of (small_region q ty) ≡ option_map (small_out a.pages) (open_page (thread_at a q.owner) ty)
 small_agrees a q types.Cons h = h.cons
 small_agrees a q types.Boxed h = h.boxed

@@ -1,18 +1,18 @@
 -- What is known of the heap for which a sound World stands.
-use Rattle.std.proofs.Common.{◌≡◌, ℕ, ◌<◌, List, length, ◌∙◌, subst, ap, arith, Option}
+use Rattle.std.proofs.Common.{◌≡◌, ℕ, ◌<◌, List, length, ◌∙◌, subst, ap, arith, Option, Some}
 use Rattle.std.proofs.Math.ListN.{length-map}
 use Rattle.heap_terms.specs.declared.programs.Program.{Program}
 use Rattle.heap_terms.specs.Heap.{NamedHeap, object_at}
 use Rattle.heap_terms.specs.Histories.{replay}
-use Rattle.heap_terms.specs.Objects.{Object, Contents}
-use Rattle.heap_terms.specs.WellFormed.{IsWellFormed, HoldsLiving}
+use Rattle.heap_terms.specs.Objects.{Object, Contents, ConsOf}
+use Rattle.heap_terms.specs.declared.cells.Value.{Value}
+use Rattle.heap_terms.specs.WellFormed.{IsWellFormed, HoldsLiving, IsLiving}
 use Rattle.heap_laws.proofs.AtPlaces.{IfSome-at}
 use Rattle.heap_laws.proofs.SoundHeaps.{IsCons, only_conses, cons_contents, replay-well_formed}
 use Rattle.lisp_heap.specs.CellsView.{HasCells}
 use Rattle.lisp_heap.specs.WorldSound.{IsSound}
 use Rattle.lisp_heap.specs.State.{state_of}
 use Rattle.lisp_heap.specs.declared.world.World.TheInside.{Inside}
-use Rattle.lisp_heap.proofs.CommitLemmas.{HoldLiving}
 use Rattle.lisp_heap.proofs.WordLemmas.{AreConses}
 
 -- the heap that a World's history leaves
@@ -23,6 +23,10 @@ pub well_formed : (s : Inside) → IsSound s → IsWellFormed s.program (heap s)
 well_formed s h = replay-well_formed s.program s.history.items h.valid h.lawful
 
 -- a well-formed heap of conses has living values in each of them
+abbrev pub HoldLiving : List (Option Object) → Type 0
+HoldLiving objects = (name : ℕ) (o : Object) (p q : Value) → object_at objects name ≡ Some o → o.contents ≡ ConsOf p q →
+    IsLiving objects p × IsLiving objects q
+
 pub living_in : (p : Program) (a : NamedHeap) → IsWellFormed p a → HoldLiving a.objects
 living_in program a wf name o p q there is =
     subst (λ (k : Contents). HoldsLiving a.objects k) is (wf.sound.objects name o there).contents

@@ -7,11 +7,11 @@ use Rattle.heap_terms.specs.declared.pages.Next.{Next}
 use Rattle.heap_terms.specs.declared.pages.Next.TheVariants as nexts
 use Rattle.heap_terms.specs.Heap.{NamedHeap, thread_at, entry_at, fill_of}
 use Rattle.heap_terms.specs.Layout.{page_words}
-use Rattle.heap_terms.specs.Histories.{command_at, wish_at, wished_size}
-use Rattle.heap_terms.specs.Regions.{IsFreeRun, IsLowestRun, pages_needed}
+use Rattle.heap_terms.specs.Histories.{IsOpening, command_at, wish_at, wished_size}
+use Rattle.heap_terms.specs.Regions.{IsFreeRun, pages_needed}
 use Rattle.lisp_heap.specs.declared.allocating.Lent.{Lent}
 use Rattle.lisp_heap.specs.declared.allocating.Lent.TheVariants as lents
-use Rattle.lisp_heap.specs.ParcelView.{ParcelView, empty_parcel, place_of, with_cons, HasRoom, HasBuilt, IsMaking}
+use Rattle.lisp_heap.specs.ParcelView.{ParcelView, empty_parcel, place_of, with_accepted, with_region, HasRoom, HasBuilt, IsMaking}
 use Rattle.lisp_heap.specs.View.{View, heap_of}
 use Rattle.lisp_heap.specs.declared.parcels.RegionPlace.{RegionPlace}
 
@@ -82,8 +82,25 @@ abbrev pub Lends : View → ℕ → Lent → Type 0
 Lends old t lents.Opened = HasRunFor old t
 Lends old t lents.Exhausted = ¬ HasRunFor old t
 
--- what `lend` makes of the parcel: a region of conses on the lowest free page is in it in place of the one that was
--- there, or it stays
+-- `lend` opened a region for the parcel's owner: it is of the type of the wished object and of as many pages as that
+-- needs, on the lowest run of them, and it is in the parcel
+pub record IsAdopted (old : View) (q after : ParcelView) : Type 0 where
+  pub ty : PageType
+  pub first : ℕ
+  pub k : ℕ
+  pub opening : IsOpening (heap_of old) (wish_at (command_at old.program (heap_of old) q.owner)) ty first k
+  pub adopted : after ≡ with_region q ty first k
+
+-- what `lend` makes of the parcel
 abbrev pub Adopts : View → ParcelView → ParcelView → Lent → Type 0
-Adopts old q after lents.Opened = (first : ℕ) × IsLowestRun (heap_of old).pages first 1 × (after ≡ with_cons q first)
+Adopts old q after lents.Opened = IsAdopted old q after
 Adopts old q after lents.Exhausted = after ≡ q
+
+-- a parcel after the commit of what its owner was to build
+abbrev pub accepted_for : Next → ParcelView → ParcelView
+accepted_for (nexts.Build kind n seed) q = with_accepted q kind n
+accepted_for nexts.Simple q = q
+accepted_for nexts.Open q = q
+accepted_for (nexts.Collect last) q = q
+accepted_for nexts.End q = q
+accepted_for nexts.Done q = q

@@ -1,8 +1,9 @@
 -- What a parcel keeps of a region.
-use Rattle.std.specs.Prelude.{◌≡◌, []}
+use Rattle.std.specs.Prelude.{◌≡◌, [], length}
 use Rattle.std.specs.Option.{ForSome}
 use Rattle.heap_terms.specs.declared.kinds.PageType.{PageType}
 use Rattle.heap_terms.specs.Fresh.{fresh_contents}
+use Rattle.heap_terms.specs.Layout.{size_of}
 use Rattle.heap_terms.specs.Spelling.{spelling}
 use Rattle.lisp_heap.specs.ParcelView.{LeaseView}
 use Rattle.lisp_heap.specs.declared.parcels.Lease.{Lease}
@@ -12,9 +13,10 @@ use Rattle.lisp_heap.specs.declared.parcels.Making.{Making}
 abbrev pub lease_view : Lease → LeaseView
 lease_view l = record { ty = l.region.ty; first = l.region.first; pages = l.region.pages; next = l.region.next; built = l.built }
 
--- the words of an object that is built are in the region
-abbrev pub IsBuiltThere : Lease → Making → Type 0
-IsBuiltThere l m = l.region.built ≡ spelling [] (fresh_contents m.kind m.n m.seed)
+-- the words of an object that is built are in the region, as many as its size says
+pub record IsBuiltThere (l : Lease) (m : Making) : Type 0 where
+  pub words : l.region.built ≡ spelling [] (fresh_contents m.kind m.n m.seed)
+  pub size : length l.region.built ≡ size_of m.kind m.n
 
 -- a lease says what is built in its region
 pub record IsLease (l : Lease) : Type 0 where

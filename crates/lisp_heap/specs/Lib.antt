@@ -9,6 +9,7 @@ pub mod Standing
 pub mod WorldSound
 pub mod Plan
 pub mod Wishes
+pub mod Commits
 pub mod LivingWords
 pub mod Leases
 pub mod ParcelSound

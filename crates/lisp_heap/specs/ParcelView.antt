@@ -1,5 +1,5 @@
 -- What contracts see of a Parcel: the open regions of one thread.
-use Rattle.std.specs.Prelude.{◌≡◌, ℕ, ◌+◌, ◌-◌, ◌*◌, ◌≤◌, ◌<◌, ◌^◌, Option, Some, None, IsSomeAnd, option_map, if◌then◌else◌, false}
+use Rattle.std.specs.Prelude.{◌≡◌, ℕ, ◌+◌, ◌-◌, ◌*◌, ◌≤◌, ◌<◌, ◌^◌, Option, Some, None, IsSomeAnd, option_map, if◌then◌else◌, false, ◌==◌}
 use Rattle.heap_terms.specs.declared.kinds.Kind.{Kind}
 use Rattle.heap_terms.specs.declared.kinds.Kind.TheVariants as kinds
 use Rattle.heap_terms.specs.declared.kinds.PageType.{PageType}
@@ -78,17 +78,33 @@ one_if (Some r) = 1
 abbrev pub regions_in : ParcelView → ℕ
 regions_in q = one_if q.cons + one_if q.boxed + one_if q.unboxed + one_if q.run
 
--- the small region of conses after another one was opened
-abbrev pub with_cons : ParcelView → ℕ → ParcelView
-with_cons q first = record q { cons = Some (record { ty = types.Cons; first = first; pages = 1; next = page_words * first; built = None }) }
+-- a parcel with another small region of a type
+abbrev pub with_small : ParcelView → PageType → Option LeaseView → ParcelView
+with_small q types.Cons r = record q { cons = r }
+with_small q types.Boxed r = record q { boxed = r }
+with_small q types.Unboxed r = record q { unboxed = r }
 
--- a region after the cons that is built there was committed
-abbrev pub cons_accepted : LeaseView → LeaseView
-cons_accepted r = record r { next = r.next + 2; built = None }
+-- a region of k pages that was just opened
+abbrev pub fresh_lease : PageType → ℕ → ℕ → LeaseView
+fresh_lease ty first k = record { ty = ty; first = first; pages = k; next = page_words * first; built = None }
 
--- a parcel after the cons that is built there was committed
-abbrev pub with_accepted : ParcelView → ParcelView
-with_accepted q = record q { cons = option_map cons_accepted q.cons }
+-- a parcel after a region of k pages was opened: one page is its small region of the type, in place of the one that
+-- was there; a longer run is its run
+abbrev pub with_region : ParcelView → PageType → ℕ → ℕ → ParcelView
+with_region q ty first k =
+    let r = Some (fresh_lease ty first k) in
+    if k == 1 then with_small q ty r else record q { run = r }
+
+-- a region after the object of a size that is built there was committed
+abbrev pub region_accepted : ℕ → LeaseView → LeaseView
+region_accepted size r = record r { next = r.next + size; built = None }
+
+-- a parcel after the object of a kind that is built there was committed: a large one leaves it without its run
+abbrev pub with_accepted : ParcelView → Kind → ℕ → ParcelView
+with_accepted q kind n =
+    let size = size_of kind n in
+    let ty = page_type_of kind in
+    if is_small size then with_small q ty (option_map (region_accepted size) (small_region q ty)) else record q { run = None }
 
 -- a region after an object was built there
 abbrev pub region_built : Making → LeaseView → LeaseView

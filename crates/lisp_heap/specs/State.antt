@@ -1,8 +1,9 @@
 -- What the World keeps of a thread beside its cells.
-use Rattle.std.specs.Prelude.{ℕ, ◌+◌, List, Option, Some, None, false, true, slice_index_or, slice_set}
+use Rattle.std.specs.Prelude.{ℕ, ◌+◌, ◌==◌, List, Option, Some, None, false, true, if◌then◌else◌, slice_index_or, slice_set}
 use Rattle.heap_terms.specs.declared.kinds.PageType.{PageType}
 use Rattle.heap_terms.specs.declared.kinds.PageType.TheVariants as types
 use Rattle.heap_terms.specs.Heap.{Thread}
+use Rattle.heap_terms.specs.Regions.{is_small}
 use Rattle.lisp_heap.specs.declared.states.ThreadState.{ThreadState}
 
 abbrev pub fresh_state : ThreadState
@@ -31,9 +32,28 @@ advanced states t =
     let state = slice_index_or states t fresh_state in
     slice_set states t (record state { done = state.done + 1 })
 
--- the states with another open page of conses of one thread
-abbrev pub with_cons_open : List ThreadState → ℕ → ℕ → List ThreadState
-with_cons_open states t page = slice_set states t (record (slice_index_or states t fresh_state) { cons_page = Some page })
+-- the state of a thread with another open page of a type
+abbrev pub state_with_page : ThreadState → PageType → ℕ → ThreadState
+state_with_page s types.Cons page = record s { cons_page = Some page }
+state_with_page s types.Boxed page = record s { boxed_page = Some page }
+state_with_page s types.Unboxed page = record s { unboxed_page = Some page }
+
+-- the state of a thread for which a run of k pages was opened: one page is its open page of the type, a longer run is
+-- its open run
+abbrev pub state_with_region : ThreadState → PageType → ℕ → ℕ → ThreadState
+state_with_region s ty first k = if k == 1 then state_with_page s ty first else record s { open_run = Some first }
+
+-- the states after a run of k pages was opened for one thread
+abbrev pub with_region_open : List ThreadState → ℕ → PageType → ℕ → ℕ → List ThreadState
+with_region_open states t ty first k = slice_set states t (state_with_region (slice_index_or states t fresh_state) ty first k)
+
+-- the state of a thread that is one command further, which made an object of a size: a large one uses the run up
+abbrev pub state_placed : ThreadState → ℕ → ThreadState
+state_placed s size = record (if is_small size then s else record s { open_run = None }) { done = s.done + 1 }
+
+-- the states after one thread's object of a size was committed
+abbrev pub with_placed : List ThreadState → ℕ → ℕ → List ThreadState
+with_placed states t size = slice_set states t (state_placed (slice_index_or states t fresh_state) size)
 
 -- the states after one thread has ended
 abbrev pub with_ended : List ThreadState → ℕ → List ThreadState

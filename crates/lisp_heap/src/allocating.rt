@@ -1,23 +1,22 @@
-//! Opening regions, committing objects, and the ends of threads.
+//! Opening regions, and the ends of threads.
 
-ghost use Rattle.std.specs.Prelude.{◌≡◌, ◌≢◌, ◌<◌, ℕ, Some, length, OnOk, OnErr, IfOk};
-ghost use Rattle.heap_terms.specs.declared.commands.Command.{Command};
+ghost use Rattle.std.specs.Prelude.{◌≡◌, ◌≢◌, ◌<◌, ℕ, length, OnOk, OnErr, IfOk};
 ghost use Rattle.heap_terms.specs.declared.pages.Next.{Next};
-ghost use Rattle.heap_terms.specs.Histories.{command_at};
+ghost use Rattle.heap_terms.specs.Histories.{IsOpening, command_at, wish_at, wished_size};
+ghost use Rattle.heap_terms.specs.Regions.{HasNoRun, Make, pages_needed};
 ghost use Rattle.alloc_region.specs.View.{opened_region};
-ghost use Rattle.heap_terms.specs.declared.kinds.Kind.TheVariants as kinds;
-ghost use Rattle.heap_terms.specs.declared.kinds.PageType.TheVariants as types;
-ghost use Rattle.heap_terms.specs.Regions.{HasNoRun, IsLowestRun, place_for};
-ghost use Rattle.lisp_heap.specs.Agreement.{Adopts, Agrees, IsBuiltFor, OthersAgree, Lends};
+ghost use Rattle.lisp_heap.specs.Agreement.{Adopts, Agrees, OthersAgree, Lends};
 ghost use Rattle.lisp_heap.specs.Events.{Happens};
-ghost use Rattle.lisp_heap.specs.ParcelView.{ParcelView, empty_parcel, with_accepted, with_cons};
+ghost use Rattle.lisp_heap.specs.ParcelView.{IsMaking, ParcelView, empty_parcel, with_region};
 ghost use Rattle.lisp_heap.specs.View.{heap_of, next_of};
 
-use crate::parcels::Parcel;
+use crate::parcels::{Making, Parcel};
+use crate::wishes::wish;
 use crate::world::World;
 use alloc_region::Region;
-use heap_terms::{Answer, Command, Event, Kind, Memory, Owned, PAGE_WORDS, PageType, Refusal};
-use lisp_words::tag;
+use heap_terms::{Answer, Event, Memory, Owned, PageType, Refusal};
+use lisp_words::{page_type, size_of};
+use page_table::pages_needed;
 
 /// What `lend` did.
 #[derive(Clone, Copy, Debug, PartialEq, Eq)]
@@ -45,26 +44,39 @@ impl World {
         ensures err { OnErr result (self.new ≡ self.old) }
         ensures kept { OnErr result (parcel.new ≡ parcel.old) }
     {
-        // The objects that are built so far are conses, which need one page.
         let t = parcel.owner();
-        match self.pages.find_run(1) {
+        let making = self.wished(t as usize);
+        let pages = pages_needed(size_of(making.kind, making.n));
+        match self.pages.find_run(pages) {
             None => {
                 self.refuse(t)?;
                 Ok(Lent::Exhausted)
             }
             Some(first) => {
-                let region = self.open(t, first)?;
-                parcel.adopt_cons(region);
+                let region = self.open(t, page_type(making.kind), first, pages)?;
+                parcel.adopt(region);
                 Ok(Lent::Opened)
             }
         }
+    }
+
+    /// The object that thread t wants made, for which it has no room.
+    fn wished(&self, t: usize) -> Making
+        requires thread { t < length self.now.program.threads }
+        requires opens { next_of self.now t ≡ Next.Open }
+        ensures wish { wish_at (command_at self.now.program (heap_of self.now) t) ≡ Make result.kind result.n result.seed }
+        ensures making { IsMaking result.kind result.n result.seed }
+    {
+        // Looked into here, so that what follows may use what a World keeps true.
+        let _program = &self.program;
+        wish(self.current(t)).unwrap()
     }
 
     /// Answers thread t's command with `!exhausted`.
     fn refuse(&mut self, t: u32) -> Result<(), Memory>
         requires thread { t < length self.old.program.threads }
         requires opens { next_of self.old t ≡ Next.Open }
-        requires none { HasNoRun (heap_of self.old).pages 1 }
+        requires none { HasNoRun (heap_of self.old).pages (pages_needed (wished_size (wish_at (command_at self.old.program (heap_of self.old) t)))) }
         ensures ok { OnOk result (Happens t self.old self.new) }
         ensures agrees { OnOk result ((q : ParcelView) → Agrees (heap_of self.old) q → Agrees (heap_of self.new) q) }
         ensures err { OnErr result (self.new ≡ self.old) }
@@ -79,88 +91,30 @@ impl World {
         Ok(())
     }
 
-    /// Opens a region of conses on a free page for thread t.
-    fn open(&mut self, t: u32, first: u32) -> Result<Region, Memory>
+    /// Opens a run of free pages of a type for thread t.
+    fn open(&mut self, t: u32, ty: PageType, first: u32, pages: u32) -> Result<Region, Memory>
         requires thread { t < length self.old.program.threads }
         requires opens { next_of self.old t ≡ Next.Open }
-        requires run { IsLowestRun (heap_of self.old).pages first 1 }
+        requires opening { IsOpening (heap_of self.old) (wish_at (command_at self.old.program (heap_of self.old) t)) ty first pages }
         ensures ok { OnOk result (Happens t self.old self.new) }
-        ensures region { IfOk result (λ region. region ≡ opened_region types.Cons first 1) }
-        ensures agrees { OnOk result ((q : ParcelView) → q.owner ≡ t → Agrees (heap_of self.old) q → Agrees (heap_of self.new) (with_cons q first)) }
+        ensures region { IfOk result (λ region. region ≡ opened_region ty first pages) }
+        ensures agrees { OnOk result ((q : ParcelView) → q.owner ≡ t → Agrees (heap_of self.old) q → Agrees (heap_of self.new) (with_region q ty first pages)) }
         ensures others { OnOk result (OthersAgree (heap_of self.old) (heap_of self.new) t) }
         ensures err { OnErr result (self.new ≡ self.old) }
     {
         self.history.reserve(1)?;
-        let region = Region::open(self.alloc, PageType::Cons, first, 1)?;
+        let region = Region::open(self.alloc, ty, first, pages)?;
         self.history
             .push(Event::Opened {
                 thread: t,
-                ty: PageType::Cons,
+                ty,
                 first,
-                pages: 1,
+                pages,
             })
             .unwrap();
-        self.pages.take_run(first, 1, PageType::Cons, 0);
-        self.states.open_cons(t as usize, first);
+        self.pages.take_run(first, pages, ty, 0);
+        self.states.open_region(t as usize, ty, first, pages);
         Ok(region)
-    }
-
-    /// Commits the object that is built in the parcel, and answers its name. For want of memory
-    /// nothing changes.
-    pub fn commit(&mut self, parcel: &mut Parcel) -> Result<u32, Memory>
-        requires thread { parcel.old.owner < length self.old.program.threads }
-        requires agrees { Agrees (heap_of self.old) parcel.old }
-        requires built { IsBuiltFor (next_of self.old parcel.old.owner) parcel.old }
-        ensures ok { OnOk result (Happens parcel.old.owner self.old self.new) }
-        ensures name { IfOk result (λ name. name ≡ length (heap_of self.old).objects) }
-        ensures agrees { OnOk result (Agrees (heap_of self.new) parcel.new) }
-        ensures others { OnOk result (OthersAgree (heap_of self.old) (heap_of self.new) parcel.old.owner) }
-        ensures accepted { OnOk result (parcel.new ≡ with_accepted parcel.old) }
-        ensures owner { parcel.new.owner ≡ parcel.old.owner }
-        ensures err { OnErr result (self.new ≡ self.old) }
-        ensures kept { OnErr result (parcel.new ≡ parcel.old) }
-    {
-        // Looked into here, so that what follows may use what a World keeps true.
-        let _program = &self.program;
-        let t = parcel.owner();
-        let index = parcel.next_cons();
-        let name = self.place(t, index)?;
-        parcel.accept_cons();
-        Ok(name)
-    }
-
-    /// Commits thread t's cons at an index.
-    fn place(&mut self, t: u32, index: u32) -> Result<u32, Memory>
-        requires thread { t < length self.old.program.threads }
-        requires builds { next_of self.old t ≡ Next.Build kinds.Cons 2 0 }
-        requires place { index ≡ place_for (heap_of self.old) t kinds.Cons 2 }
-        ensures ok { OnOk result (Happens t self.old self.new) }
-        ensures name { IfOk result (λ name. name ≡ length (heap_of self.old).objects) }
-        ensures agrees { OnOk result ((q : ParcelView) → q.owner ≡ t → Agrees (heap_of self.old) q → Agrees (heap_of self.new) (with_accepted q)) }
-        ensures others { OnOk result (OthersAgree (heap_of self.old) (heap_of self.new) t) }
-        ensures err { OnErr result (self.new ≡ self.old) }
-    {
-        let command = self.current(t as usize);
-        let Command::NewCons { d, a, b } = command else {
-            unreachable!();
-        };
-        let first = self.cell(t as usize, a);
-        let second = self.cell(t as usize, b);
-        let name = self.commits;
-        self.history.push(Event::Did {
-            thread: t,
-            command,
-            answer: Answer::Placed { name, index },
-        })?;
-        self.space.write(index, first);
-        self.space.write(index + 1, second);
-        self.labels.set((index / 2) as usize, name);
-        self.pages
-            .set_fill(index / PAGE_WORDS, index % PAGE_WORDS + 2);
-        self.cells.write(t as usize, d, tag(index, Kind::Cons));
-        self.commits += 1;
-        self.states.advance(t as usize);
-        Ok(name)
     }
 
     /// Ends the parcel's owner, which has no command left: its regions are closed and its cells

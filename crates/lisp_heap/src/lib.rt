@@ -6,11 +6,13 @@
 mod agreement;
 mod allocating;
 mod cells;
+mod committing;
 mod new_world;
 mod parcels;
 mod plan;
 mod reading;
 mod states;
+mod wishes;
 mod world;
 
 pub use allocating::Lent;

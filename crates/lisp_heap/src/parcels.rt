@@ -2,13 +2,14 @@
 
 ghost use Rattle.std.specs.Prelude.{◌≡◌, ◌↔◌, ◌+◌, ◌*◌, ◌≤◌, ℕ, [], length, IsTrue, IsSome, IsSomeAnd, Some, None, option_map, is_some, if◌then◌else◌};
 ghost use Rattle.std.specs.Option.{ForSome};
-ghost use Rattle.heap_terms.specs.declared.kinds.Kind.TheVariants as kinds;
 ghost use Rattle.heap_terms.specs.declared.kinds.PageType.{PageType};
-ghost use Rattle.heap_terms.specs.declared.kinds.PageType.TheVariants as types;
-ghost use Rattle.heap_terms.specs.Layout.{page_type_of, page_words, size_of};
+ghost use Rattle.heap_terms.specs.Fresh.{fresh_contents};
+ghost use Rattle.heap_terms.specs.Layout.{page_type_of, size_of};
 ghost use Rattle.heap_terms.specs.Regions.{is_small};
+ghost use Rattle.heap_terms.specs.Spelling.{spelling};
+ghost use Rattle.alloc_region.specs.View.{opened_region};
 ghost use Rattle.lisp_heap.specs.Leases.{lease_view, IsLease, IsSmallLease};
-ghost use Rattle.lisp_heap.specs.ParcelView.{Fits, HasRoom, HasBuilt, IsMaking, LeaseView, empty_parcel, one_if, place_of, region_built, regions_in, small_region, with_accepted, with_built, with_cons};
+ghost use Rattle.lisp_heap.specs.ParcelView.{Fits, HasRoom, HasBuilt, IsMaking, LeaseView, empty_parcel, fresh_lease, one_if, place_of, region_accepted, region_built, region_for, regions_in, small_region, with_accepted, with_built, with_region};
 
 use alloc_region::Region;
 use heap_terms::{Kind, Owned, PAGE_WORDS, PageType};
@@ -137,6 +138,59 @@ fn place(slot: &Option<Lease>) -> Option<RegionPlace>
     }
 }
 
+/// Where the next object begins in the region of a slot.
+#[inline(always)]
+fn next_in(slot: &Option<Lease>) -> u32
+    requires { IsSome slot.now }
+    ensures { (r : LeaseView) → option_map lease_view slot.now ≡ Some r → result ≡ r.next }
+{
+    match slot {
+        None => unreachable!(),
+        Some(lease) => lease.region.next(),
+    }
+}
+
+/// The words of the object that is built in the region of a slot.
+fn built_in(slot: &Option<Lease>, making: Making) -> &[u64]
+    requires built { IsSomeAnd (option_map lease_view slot.now) (λ r. r.built ≡ Some making) }
+    requires lease { ForSome slot.now IsLease }
+    ensures { result.now ≡ spelling [] (fresh_contents making.kind making.n making.seed) }
+{
+    match slot {
+        None => unreachable!(),
+        Some(lease) => lease.region.built(),
+    }
+}
+
+/// Puts a region that was just opened into a slot, in place of the one that is there.
+fn adopt_in(slot: &mut Option<Lease>, region: Region)
+    requires { region ≡ opened_region region.ty region.first region.pages }
+    ensures view { option_map lease_view slot.new ≡ Some (fresh_lease region.ty region.first region.pages) }
+    ensures lease { ForSome slot.new IsLease }
+    ensures small { region.pages ≡ 1 → ForSome slot.new (IsSmallLease region.ty) }
+{
+    let old = slot.replace(Lease {
+        region,
+        built: None,
+    });
+    let _closed = put_back(old);
+}
+
+/// Moves the region of a slot on past the object that is built there.
+#[inline(always)]
+fn accept_in(slot: &mut Option<Lease>, making: Making)
+    requires built { IsSomeAnd (option_map lease_view slot.old) (λ r. r.built ≡ Some making) }
+    requires lease { ForSome slot.old IsLease }
+    ensures view { option_map lease_view slot.new ≡ option_map (region_accepted (size_of making.kind making.n)) (option_map lease_view slot.old) }
+    ensures lease { ForSome slot.new IsLease }
+    ensures small { (ty : PageType) → ForSome slot.old (IsSmallLease ty) → ForSome slot.new (IsSmallLease ty) }
+{
+    if let Some(lease) = slot {
+        lease.region.accept();
+        lease.built = None;
+    }
+}
+
 impl Parcel {
     /// The parcel of a thread without regions. It takes no memory.
     pub(crate) fn empty(owner: u32) -> Parcel
@@ -228,39 +282,70 @@ impl Parcel {
         }
     }
 
-    /// Where the next cons begins, an index in words.
-    pub(crate) fn next_cons(&self) -> u32
-        requires { IsSome self.now.cons }
-        ensures { (r : LeaseView) → self.now.cons ≡ Some r → result ≡ r.next }
+    /// The region into which an object of a kind with n words of payload goes.
+    #[inline(always)]
+    fn slot(&self, kind: Kind, n: u32) -> &Option<Lease>
+        ensures view { option_map lease_view result.now ≡ region_for self.now kind n }
+        ensures lease { ForSome result.now IsLease }
     {
-        match &self.cons {
-            None => unreachable!(),
-            Some(lease) => lease.region.next(),
+        if !is_small_object(kind, n) {
+            return &self.run;
+        }
+        match page_type(kind) {
+            PageType::Cons => &self.cons,
+            PageType::Boxed => &self.boxed,
+            PageType::Unboxed => &self.unboxed,
         }
     }
 
-    /// Takes a region of conses, in place of the one that is there.
-    pub(crate) fn adopt_cons(&mut self, region: Region)
-        requires ty { region.ty ≡ types.Cons }
-        requires pages { region.pages ≡ 1 }
-        requires next { region.next ≡ page_words * region.first }
-        ensures { self.new ≡ with_cons self.old region.first }
+    /// Where the next object of a kind with n words of payload begins, an index in words.
+    #[inline(always)]
+    pub(crate) fn next_for(&self, kind: Kind, n: u32) -> u32
+        requires { IsSome (region_for self.now kind n) }
+        ensures { (r : LeaseView) → region_for self.now kind n ≡ Some r → result ≡ r.next }
     {
-        let old = self.cons.replace(Lease {
-            region,
-            built: None,
-        });
-        let _closed = put_back(old);
+        next_in(self.slot(kind, n))
     }
 
-    /// The cons that is built there was committed.
-    pub(crate) fn accept_cons(&mut self)
-        requires { HasBuilt self.old kinds.Cons 2 0 }
-        ensures { self.new ≡ with_accepted self.old }
+    /// The words of the object that is built there.
+    pub(crate) fn built(&self, making: Making) -> &[u64]
+        requires { HasBuilt self.now making.kind making.n making.seed }
+        ensures { result.now ≡ spelling [] (fresh_contents making.kind making.n making.seed) }
     {
-        if let Some(lease) = &mut self.cons {
-            lease.region.accept();
-            lease.built = None;
+        built_in(self.slot(making.kind, making.n), making)
+    }
+
+    /// Takes a region that was just opened, in place of the one that is there.
+    pub(crate) fn adopt(&mut self, region: Region)
+        requires { region ≡ opened_region region.ty region.first region.pages }
+        ensures { self.new ≡ with_region self.old region.ty region.first region.pages }
+    {
+        if region.pages() != 1 {
+            adopt_in(&mut self.run, region);
+            return;
+        }
+        match region.page_type() {
+            PageType::Cons => adopt_in(&mut self.cons, region),
+            PageType::Boxed => adopt_in(&mut self.boxed, region),
+            PageType::Unboxed => adopt_in(&mut self.unboxed, region),
+        }
+    }
+
+    /// The object that is built there was committed. The region moves on past it; a large object
+    /// uses the run up, which is closed.
+    #[inline(always)]
+    pub(crate) fn accept(&mut self, making: Making)
+        requires { HasBuilt self.old making.kind making.n making.seed }
+        ensures { self.new ≡ with_accepted self.old making.kind making.n }
+    {
+        if !is_small_object(making.kind, making.n) {
+            let _closed = put_back(self.run.take());
+            return;
+        }
+        match page_type(making.kind) {
+            PageType::Cons => accept_in(&mut self.cons, making),
+            PageType::Boxed => accept_in(&mut self.boxed, making),
+            PageType::Unboxed => accept_in(&mut self.unboxed, making),
         }
     }
 

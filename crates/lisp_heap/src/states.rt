@@ -2,9 +2,9 @@
 
 ghost use Rattle.std.specs.Prelude.{◌≡◌, ◌+◌, ◌<◌, ◌^◌, length, slice_get, slice_index_or, replicate, IfOk};
 ghost use Rattle.std.specs.Option.{ForSome};
-ghost use Rattle.lisp_heap.specs.State.{advanced, fresh_state, state_page, with_cons_open, with_ended};
+ghost use Rattle.lisp_heap.specs.State.{advanced, fresh_state, state_page, state_with_page, state_with_region, with_ended, with_placed, with_region_open};
 
-use heap_terms::{Memory, PageType};
+use heap_terms::{Memory, PAGE_WORDS, PageType};
 use std::alloc::Global;
 use std::marker::Model;
 
@@ -69,6 +69,42 @@ impl ThreadState {
             PageType::Unboxed => self.unboxed_page,
         }
     }
+
+    /// The state with another open page of a type.
+    fn with_page(self, ty: PageType, page: u32) -> ThreadState
+        ensures { result ≡ state_with_page self ty page }
+    {
+        let page = Some(page);
+        match ty {
+            PageType::Cons => ThreadState {
+                cons_page: page,
+                ..self
+            },
+            PageType::Boxed => ThreadState {
+                boxed_page: page,
+                ..self
+            },
+            PageType::Unboxed => ThreadState {
+                unboxed_page: page,
+                ..self
+            },
+        }
+    }
+
+    /// The state with a run of pages of a type open: one page is its open page of that type, a
+    /// longer run its open run.
+    fn with_region(self, ty: PageType, first: u32, pages: u32) -> ThreadState
+        ensures { result ≡ state_with_region self ty first pages }
+    {
+        if pages == 1 {
+            self.with_page(ty, first)
+        } else {
+            ThreadState {
+                open_run: Some(first),
+                ..self
+            }
+        }
+    }
 }
 
 impl States {
@@ -108,12 +144,32 @@ impl States {
         self.states[t].done += 1;
     }
 
-    /// A page of conses is open for one thread from now on.
-    pub fn open_cons(&mut self, t: usize, page: u32)
-        requires { t < length self.old }
-        ensures { self.new ≡ with_cons_open self.old t page }
+    /// One thread's object of a size was committed: it is one command further in its script, and a
+    /// large object uses its run up.
+    #[inline(always)]
+    pub fn place(&mut self, t: usize, size: u32)
+        requires thread { t < length self.old }
+        requires room { ForSome (slice_get self.old t) (λ state. state.done + 1 < 2 ^ 64) }
+        ensures { self.new ≡ with_placed self.old t size }
     {
-        self.states[t].cons_page = Some(page);
+        if size <= PAGE_WORDS {
+            self.states[t].done += 1;
+        } else {
+            let state = self.states[t];
+            self.states[t] = ThreadState {
+                done: state.done + 1,
+                open_run: None,
+                ..state
+            };
+        }
+    }
+
+    /// A run of pages of a type is open for one thread from now on.
+    pub fn open_region(&mut self, t: usize, ty: PageType, first: u32, pages: u32)
+        requires { t < length self.old }
+        ensures { self.new ≡ with_region_open self.old t ty first pages }
+    {
+        self.states[t] = self.states[t].with_region(ty, first, pages);
     }
 
     /// One thread has ended.

@@ -1,9 +1,11 @@
 //! The World.
 
-ghost use Rattle.std.specs.Prelude.{◌≡◌, ◌↔◌, ◌<◌, ◌==◌, not, ℕ, [], length, IsSome, IsTrue, OnOk, OnErr, Some};
+ghost use Rattle.std.specs.Prelude.{◌≡◌, ◌↔◌, ◌<◌, ◌≤◌, ◌==◌, not, ℕ, [], length, IsSome, IsTrue, OnOk, OnErr, Some};
 ghost use Rattle.std.specs.Option.{ForSome};
 ghost use Rattle.heap_terms.specs.Heap.{thread_at};
-ghost use Rattle.heap_terms.specs.Regions.{wish_of, page_has_room};
+ghost use Rattle.heap_terms.specs.declared.limits.TheConstants.{MOST_ELEMENTS, MOST_WORDS};
+ghost use Rattle.heap_terms.specs.Layout.{size_of};
+ghost use Rattle.heap_terms.specs.Regions.{wish_of, has_room, page_has_room, run_has_room};
 ghost use Rattle.heap_terms.specs.declared.pages.Next.{Next};
 ghost use Rattle.heap_terms.specs.Histories.{Lawful, command_at, next_for};
 ghost use Rattle.heap_terms.specs.Valid.{IsValid};
@@ -14,14 +16,17 @@ ghost use Rattle.lisp_heap.specs.ParcelView.{ParcelView};
 ghost use Rattle.lisp_heap.specs.Plan.{IsPlan};
 ghost use Rattle.lisp_heap.specs.Standing.{Holds};
 ghost use Rattle.lisp_heap.specs.State.{state_of};
-ghost use Rattle.lisp_heap.specs.Wishes.{Wishes};
+ghost use Rattle.lisp_heap.specs.Wishes.{HasOpen, Wishes};
 ghost use Rattle.lisp_heap.specs.View.{heap_of, next_of};
 
 use crate::cells::CellWords;
+use crate::parcels::Making;
 use crate::plan::{Plan, apply};
 use crate::states::{States, ThreadState};
-use heap_terms::{Command, Entry, Event, Kind, Memory, Next, PAGE_WORDS, Program};
-use page_table::PageTable;
+use crate::wishes::wish;
+use heap_terms::{Command, Entry, Event, Kind, Memory, Next, PAGE_WORDS, PageType, Program};
+use lisp_words::{page_type, size_of};
+use page_table::{PageTable, pages_needed};
 use std::alloc::Global;
 use std::marker::Model;
 use word_space::{Prefilled, Space};
@@ -140,37 +145,72 @@ impl World {
     }
 
     /// What a thread in a state does for a command.
+    #[inline(always)]
     fn next_for(&self, state: ThreadState, command: Command) -> Next
         requires { Wishes (heap_of self.now) state command }
         ensures { (t : ℕ) → state ≡ state_of (thread_at (heap_of self.now) t) →
             result ≡ next_for (heap_of self.now) t (wish_of command) }
     {
-        match command {
-            Command::NewCons { .. } => {
-                if self.has_room(state.cons_page) {
-                    Next::Build {
-                        kind: Kind::Cons,
-                        n: 2,
-                        seed: 0,
-                    }
+        match wish(command) {
+            None => Next::Simple,
+            Some(Making { kind, n, seed }) => {
+                if self.has_room(state, kind, n) {
+                    Next::Build { kind, n, seed }
                 } else {
                     Next::Open
                 }
             }
-            _ => Next::Simple,
         }
     }
 
-    /// Whether an open page has room for a cons.
-    fn has_room(&self, page: Option<u32>) -> bool
-        requires { ForSome page (λ page. page < length (heap_of self.now).pages) }
-        ensures { result ≡ page_has_room (heap_of self.now).pages page 2 }
+    /// Whether a thread in a state has room for an object of a kind with n words of payload: a small
+    /// one in its open page of that type, a large one in the run that was opened for it.
+    #[inline(always)]
+    fn has_room(&self, state: ThreadState, kind: Kind, n: u32) -> bool
+        requires regions { HasOpen (heap_of self.now) state }
+        requires n { n ≤ MOST_ELEMENTS }
+        ensures { (t : ℕ) → state ≡ state_of (thread_at (heap_of self.now) t) →
+            result ≡ has_room (heap_of self.now) t kind (size_of kind n) }
+    {
+        let size = size_of(kind, n);
+        if size <= PAGE_WORDS {
+            self.page_has_room(state.open_page(page_type(kind)), size)
+        } else {
+            self.run_has_room(state.open_run, page_type(kind), size)
+        }
+    }
+
+    /// Whether an open page has room for an object of a size.
+    #[inline(always)]
+    fn page_has_room(&self, page: Option<u32>, size: u32) -> bool
+        requires page { ForSome page (λ page. page < length (heap_of self.now).pages) }
+        requires size { size ≤ MOST_WORDS }
+        ensures { result ≡ page_has_room (heap_of self.now).pages page size }
     {
         match page {
             None => false,
             Some(page) => match self.pages.entry(page) {
                 Entry::Free => false,
-                Entry::Used { fill, .. } => fill + 2 <= PAGE_WORDS,
+                Entry::Used { fill, .. } => fill + size <= PAGE_WORDS,
+            },
+        }
+    }
+
+    /// Whether an open run was opened for a large object of a type and a size.
+    fn run_has_room(&self, run: Option<u32>, ty: PageType, size: u32) -> bool
+        requires run { ForSome run (λ page. page < length (heap_of self.now).pages) }
+        requires size { size ≤ MOST_WORDS }
+        ensures { result ≡ run_has_room (heap_of self.now).pages run ty size }
+    {
+        match run {
+            None => false,
+            Some(first) => match self.pages.entry(first) {
+                Entry::Free => false,
+                Entry::Used {
+                    ty: own,
+                    run_pages,
+                    ..
+                } => own == ty && run_pages == pages_needed(size),
             },
         }
     }

@@ -1,7 +1,7 @@
 -- Runs of free pages, as a search from page 0 on meets them; and one entry written.
 use Rattle.std.proofs.Common.{suc, zero, replicate, take, drop, ◌++◌, ◌∷◌, [], ◌≡◌, ℕ, ◌+◌, ◌<◌, ◌≤◌, Bool, true, false, List, length, map, refl, sym, ◌∙◌, ap, arith, ⊎_elim, set, get_or}
 use borrow.Rule.Slice.PartMut.{put_mid}
-use Rattle.std.proofs.lemmas.List.{get_or-map, map-set, length-map, map-append, take-map, drop-map, length-replicate}
+use Rattle.std.proofs.lemmas.List.{get_or-map, map-set, length-map, map-append, take-map, drop-map, drop-set, take-set-le, length-replicate}
 use Rattle.std.proofs.lemmas.Slice.{put_mid-paste}
 use Rattle.std.proofs.lemmas.Bool.{cases_lt}
 use Rattle.heap_terms.specs.declared.pages.Entry.{Entry}
@@ -111,6 +111,19 @@ pub unpacked-run : (ps : List Packed) (first k n : ℕ) (e : Packed) (x : Entry)
 unpacked-run ps first k n e x ys n_is ys_are is =
     rw (put_mid-paste first n ps ys (replicate k e) k ys_are (sym n_is) (sym (length-replicate k e)))
     (simp (take-replicate, map-append, map-replicate, take-map, drop-map, is))
+
+-- an entry written into the place after k others, and k copies of another one into those; n is k
+pub unpacked-last : (ps : List Packed) (first k n : ℕ) (full rest : Packed) (ys : List Packed) → n ≡ k → first + k < length ps → ys ≡ replicate k full →
+    unpacked_all (put_mid first n (set ps (first + k) rest) ys)
+    ≡ take first (unpacked_all ps) ++ replicate k (unpacked full) ++ unpacked rest ∷ drop (first + k + 1) (unpacked_all ps)
+unpacked-last ps first k n full rest ys n_is inside ys_are =
+    let pages = unpacked_all ps in
+    let below : first + k < length pages = omega (arith, inside, length-map ps unpacked) in
+    let before : first ≤ first + k = omega arith in
+    unpacked-run (set ps (first + k) rest) first k n full (unpacked full) ys n_is ys_are refl
+    ∙ ap (λ (l : List Entry). take first l ++ replicate k (unpacked full) ++ drop (first + k) l) (map-set unpacked ps (first + k) rest)
+    ∙ ap (λ (l : List Entry). l ++ replicate k (unpacked full) ++ drop (first + k) (set pages (first + k) (unpacked rest))) (take-set-le first pages (first + k) (unpacked rest) before)
+    ∙ ap (λ (l : List Entry). take first pages ++ replicate k (unpacked full) ++ l) (drop-set pages (first + k) (unpacked rest) below)
 
 -- what a resize of an empty vector leaves; m is n
 pub unpacked-resized : (n m : ℕ) (e : Packed) (x : Entry) (before after : List Packed) → m ≡ n → before ≡ [] → after ≡ take n before ++ replicate m e

@@ -9,4 +9,4 @@ mod table;
 mod tests;
 
 pub use heap_terms::Entry;
-pub use table::PageTable;
+pub use table::{PageTable, pages_needed};

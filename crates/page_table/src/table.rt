@@ -1,13 +1,13 @@
 //! The page table.
 
-ghost use Rattle.std.specs.Prelude.{◌≡◌, ℕ, ◌+◌, ◌*◌, ◌<◌, ◌≤◌, false, length, vec_len, replicate, slice_set, IfOk, IfSome, IfNone};
+ghost use Rattle.std.specs.Prelude.{◌≡◌, ℕ, ◌+◌, ◌*◌, ◌<◌, ◌≤◌, ◌++◌, ◌∷◌, false, length, take, drop, vec_len, replicate, slice_set, IfOk, IfSome, IfNone};
 ghost use Rattle.heap_terms.specs.declared.pages.Entry.TheVariants as entries;
-ghost use Rattle.heap_terms.specs.declared.limits.TheConstants.{MOST_PAGES};
+ghost use Rattle.heap_terms.specs.declared.limits.TheConstants.{MOST_PAGES, MOST_WORDS};
 ghost use Rattle.heap_terms.specs.Heap.{entry_at};
 ghost use Rattle.heap_terms.specs.Layout.{page_words};
-ghost use Rattle.heap_terms.specs.Regions.{is_free, IsFreeRun, IsLowestRun, HasNoRun, with_run, with_fill};
+ghost use Rattle.heap_terms.specs.Regions.{is_free, is_small, IsFreeRun, IsLowestRun, HasNoRun, pages_needed, with_run, with_fill, with_large};
 ghost use Rattle.heap_terms.specs.PageRuns.{with_run_of, with_generation, run_first_of};
-ghost use Rattle.page_table.specs.Unpacked.{unpacked_all};
+ghost use Rattle.page_table.specs.Unpacked.{unpacked, unpacked_all};
 
 use crate::packed::Packed;
 use heap_terms::{Entry, Memory, PAGE_WORDS, PageType};
@@ -106,6 +106,22 @@ impl PageTable {
         self.entries[p as usize] = entry;
     }
 
+    /// Fills the run that begins at a page with one large object of a size, which needs just its
+    /// pages: each page is full but the last, which has the rest. Every other entry stays.
+    pub fn fill_run(&mut self, first: u32, size: u32)
+        requires large { is_small size ≡ false }
+        requires most { size ≤ MOST_WORDS }
+        requires inside { first + pages_needed size ≤ length self.old }
+        requires used { is_free (entry_at self.old first) ≡ false }
+        ensures { self.new ≡ with_large self.old first size }
+    {
+        let last = pages_needed(size) - 1;
+        let entry = self.entries[first as usize];
+        let full = entry.with_fill(PAGE_WORDS);
+        let rest = entry.with_fill(size - PAGE_WORDS * last);
+        write_run(self.entries.as_mut_slice(), first, last, full, rest);
+    }
+
     /// Gives a page in use a generation. Its type, fill and run stay.
     pub fn set_gen(&mut self, p: u32, generation: u8)
         requires inside { p < length self.old }
@@ -124,6 +140,31 @@ impl PageTable {
     {
         self.entries[p as usize] = Packed::free();
     }
+}
+
+/// How many pages an object of a size needs: a page, or a run of its own where it does not fit into
+/// one.
+pub fn pages_needed(size: u32) -> u32
+    requires { size ≤ MOST_WORDS }
+    ensures value { result ≡ pages_needed size }
+    ensures least { 1 ≤ result }
+{
+    if size <= PAGE_WORDS {
+        1
+    } else {
+        (size + (PAGE_WORDS - 1)) / PAGE_WORDS
+    }
+}
+
+/// Writes one entry into k places from `first` on, and another one into the place after them.
+fn write_run(entries: &mut [Packed], first: u32, k: u32, full: Packed, rest: Packed)
+    requires inside { first + k < length entries.old }
+    requires most { length entries.old ≤ MOST_PAGES }
+    ensures { unpacked_all entries.new ≡ take first (unpacked_all entries.old) ++ replicate k (unpacked full) ++ unpacked rest ∷ drop (first + k + 1) (unpacked_all entries.old) }
+{
+    let last = (first + k) as usize;
+    entries[last] = rest;
+    entries[first as usize..last].fill(full);
 }
 
 /// The first of the lowest k entries side by side that are free.

@@ -1,7 +1,11 @@
 -- What is kept of a list, and the list that it stands for.
-use Rattle.std.proofs.Common.{◌≡◌, ℕ, ◌+◌, ◌-◌, ◌<◌, ◌≤◌, List, ◌++◌, length, take, drop, set, replicate, sym, ap, ◌∙◌, arith}
+use Rattle.std.proofs.Common.{◌≡◌, ℕ, ◌+◌, ◌-◌, ◌<◌, ◌≤◌, List, ◌++◌, length, take, drop, set, replicate, refl, sym, ap, ◌∙◌, arith}
 use Rattle.std.proofs.lemmas.List.{append_assoc, replicate-append-replicate, set-append_left, take-append-le, drop-append-le, length-append, length-set, length-take-le, length-drop}
-use Rattle.word_space.specs.Space.{copied, filled}
+use Rattle.std.proofs.lemmas.Slice.{put_mid-paste}
+use Rattle.std.proofs.lemmas.List.Edits.{paste_all}
+use Rattle.std.proofs.Math.Nat.{add-sub_cancel_left}
+use borrow.Rule.Slice.PartMut.{put_mid}
+use Rattle.word_space.specs.Space.{copied, filled, written}
 
 -- the list is the same where more of it is kept
 pub filled_more : {A : Type 0} (kept more : List A) (len : ℕ) (blank : A) →
@@ -45,3 +49,34 @@ copied_filled {A = A} kept len blank from to n from_within to_within =
     ∙ ap (λ (k : List A). take to (kept ++ rest) ++ k ++ drop (to + n) (kept ++ rest))
     (sym (take-append-le n (drop from kept) rest (omega (arith, length-drop from kept, from_within)))
     ∙ ap (λ (k : List A). take n k) (sym (drop-append-le from kept rest (omega (arith, from_within)))))
+
+-- a write of many keeps the length
+pub length_written : {A : Type 0} (items : List A) (at : ℕ) (values : List A) → at + length values ≤ length items →
+    length (written items at values) ≡ length items
+length_written items at values within =
+    omega (
+      arith,
+      length-append (take at items ++ values) (drop (at + length values) items),
+      length-append (take at items) values,
+      length-take-le at items (omega arith),
+      length-drop (at + length values) items,
+    )
+
+-- a write of many to what is kept
+pub written_filled : {A : Type 0} (kept : List A) (len : ℕ) (blank : A) (at : ℕ) (values : List A) → at + length values ≤ length kept →
+    filled (written kept at values) len blank ≡ written (filled kept len blank) at values
+written_filled {A = A} kept len blank at values within =
+    let rest : List A = replicate (len - length kept) blank in
+    ap (λ (m : ℕ). written kept at values ++ replicate (len - m) blank) (length_written kept at values within)
+    ∙ append_assoc (take at kept ++ values) (drop (at + length values) kept) rest
+    ∙ ap (λ (k : List A). take at kept ++ values ++ k) (sym (drop-append-le (at + length values) kept rest within))
+    ∙ ap (λ (k : List A). k ++ values ++ drop (at + length values) (kept ++ rest)) (sym (take-append-le at kept rest (omega (arith, within))))
+
+-- what a copy into a part of a list leaves
+pub put_written : {A : Type 0} (items : List A) (at : ℕ) (part values : List A) → part ≡ values →
+    put_mid at (at + length values - at) items part ≡ written items at values
+put_written {A = A} items at part values same =
+    let n : at + length values - at ≡ length values = add-sub_cancel_left at (length values) in
+    put_mid-paste at (at + length values - at) items part values (length values) same (sym n) refl
+    ∙ paste_all items at values (length values) refl
+    ∙ sym (append_assoc (take at items) values (drop (at + length values) items))

@@ -14,6 +14,10 @@ pub record IsPaged (words : List ℕ) : Type 0 where
 abbrev pub copied : {A : Type 0} → List A → ℕ → ℕ → ℕ → List A
 copied items from to n = take to items ++ take n (drop from items) ++ drop (to + n) items
 
+-- the items after others were written over those from an index on
+abbrev pub written : {A : Type 0} → List A → ℕ → List A → List A
+written items at values = take at items ++ values ++ drop (at + length values) items
+
 -- a list of a length, of which the items that are not kept are blank
 abbrev pub filled : {A : Type 0} → List A → ℕ → A → List A
 filled kept len blank = kept ++ replicate (len - length kept) blank

@@ -1,7 +1,7 @@
 //! Long lists that begin as one element repeated.
 
 ghost use Rattle.std.specs.Prelude.{◌≡◌, ◌+◌, ◌-◌, ◌<◌, ◌≤◌, ◌++◌, ◌⊎◌, length, replicate, slice_index_or, slice_set, vec_capacity, IfOk};
-ghost use Rattle.word_space.specs.Space.{copied};
+ghost use Rattle.word_space.specs.Space.{copied, written};
 
 use heap_terms::Memory;
 use std::alloc::Global;
@@ -100,6 +100,20 @@ impl<T: Copy> Prefilled<T> {
     {
         fill_up(&mut self.kept, self.len, self.blank, i + 1);
         self.kept[i] = value;
+    }
+
+    /// Writes elements over those from `at` on, which lie in the list. Every other element stays. It
+    /// takes no memory.
+    #[inline(always)]
+    pub fn write_all(&mut self, at: usize, values: &[T])
+        requires { at + length values.now ≤ length self.old }
+        ensures items { self.new ≡ written self.old at values.now }
+        ensures len { length self.new ≡ length self.old }
+    {
+        let len = self.len;
+        let end = at + values.len();
+        fill_up(&mut self.kept, len, self.blank, end);
+        self.kept[at..end].copy_from_slice(values);
     }
 
     /// Copies the n elements from `from` on over those from `to` on. The two ranges lie in the list

@@ -3,7 +3,7 @@
 ghost use Rattle.std.specs.Prelude.{◌≡◌, ◌+◌, ◌*◌, ◌<◌, ◌≤◌, ◌⊎◌, length, replicate, slice_index, slice_set, IfOk};
 ghost use Rattle.heap_terms.specs.declared.limits.TheConstants.{MOST_PAGES};
 ghost use Rattle.heap_terms.specs.Layout.{page_words};
-ghost use Rattle.word_space.specs.Space.{copied};
+ghost use Rattle.word_space.specs.Space.{copied, written};
 
 use crate::prefilled::Prefilled;
 use heap_terms::{Memory, PAGE_WORDS};
@@ -62,6 +62,16 @@ impl Space {
         ensures { self.new ≡ slice_set self.old index word }
     {
         self.words.set(index as usize, word);
+    }
+
+    /// Writes words over those from an index on, which lie in the space. Every other word stays.
+    #[inline(always)]
+    pub fn write_all(&mut self, index: u32, words: &[u64])
+        requires { index + length words.now ≤ length self.old }
+        ensures words { self.new ≡ written self.old index words.now }
+        ensures len { length self.new ≡ length self.old }
+    {
+        self.words.write_all(index as usize, words);
     }
 
     /// Copies the n words from `from` on over those from `to` on. The two ranges lie in the space

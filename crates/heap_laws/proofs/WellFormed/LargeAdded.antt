@@ -125,7 +125,7 @@ pub record GoesInto (pages : List Entry) (o : Object) (first : ℕ) : Type 0 whe
       entry_at pages (first + i) ≡ Used (page_type_of (kind_of o.contents)) 0 0 first (pages_needed (words_of_object o))
 
 -- how many pages it needs, and that it fills all but the last
-needs_just : (size : ℕ) → is_small size ≡ false → (2 ≤ pages_needed size) × (size ≤ page_words * pages_needed size) × (page_words * (pages_needed size - 1) < size)
+pub needs_just : (size : ℕ) → is_small size ≡ false → (2 ≤ pages_needed size) × (size ≤ page_words * pages_needed size) × (page_words * (pages_needed size - 1) < size)
 needs_just size large =
     let least = large_least size large in
     let needs = large_needs size large in

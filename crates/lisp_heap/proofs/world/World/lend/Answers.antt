@@ -1,24 +1,28 @@
 -- A region is lent, or there is none.
-use Rattle.std.proofs.Common.{subst}
-use Rattle.heap_terms.specs.Regions.{HasNoRun}
+use Rattle.std.proofs.Common.{◌≡◌, ℕ, subst, sym}
+use Rattle.heap_terms.specs.Histories.{command_at, wish_at, wished_size}
+use Rattle.heap_terms.specs.Regions.{HasNoRun, Make, pages_needed}
 use Rattle.lisp_heap.specs.View.{View, heap_of}
-use Rattle.heap_terms.specs.Regions.{IsFreeRun}
-use Rattle.heap_terms.specs.declared.pages.Entry.{Entry}
-use Rattle.std.proofs.Common.{List}
-use Rattle.lisp_heap.proofs.Lending.{lends_opened, lends_exhausted}
+use Rattle.lisp_heap.proofs.Lending.{needed_is, no_run_there}
 use Rattle.lisp_heap.proofs.world.World.lend.Goals as goal
 
 pub refuse-requires-clause-none : goal.refuse-requires-clause-none
 refuse-requires-clause-none c =
-    subst (λ (w : View). HasNoRun (heap_of w).pages 1) c.self.view_is
-    (subst (λ (ps : List Entry). HasNoRun ps 1) c.self.invariant.holds.pages c.in-None.ensures.none)
+    let w = c.args.self.now in
+    let t = c.owner-t.result in
+    let needed = needed_is c.pages_needed-pages.result c.size_of.result c.wished-making.result (wish_at (command_at w.program (heap_of w) t))
+    c.pages_needed-pages.ensures.value c.size_of.ensures c.wished-making.ensures.wish in
+    subst (λ (k : ℕ). HasNoRun (heap_of w).pages k) needed
+    (no_run_there c.self.inside w c.self.invariant c.self.view_is c.pages_needed-pages.result c.in-None.ensures.none)
 
 pub returns-in_ok-refuse-in-None-clause-lent : goal.returns-in_ok-refuse-in-None-clause-lent
-returns-in_ok-refuse-in-None-clause-lent c =
-    lends_exhausted c.self.inside c.args.self.now c.self.invariant c.self.view_is c.args.parcel.now.owner c.requires.thread c.requires.opens
-    (subst (λ (ps : List Entry). HasNoRun ps 1) c.self.invariant.holds.pages c.in-None.ensures.none)
-
-pub returns-in_ok-region-in-Some-clause-lent : goal.returns-in_ok-region-in-Some-clause-lent
-returns-in_ok-region-in-Some-clause-lent c =
-    lends_opened c.self.inside c.args.self.now c.self.invariant c.self.view_is c.args.parcel.now.owner c.in-Some.first c.requires.thread c.requires.opens
-    (subst (λ (ps : List Entry). IsFreeRun ps c.in-Some.first 1) c.self.invariant.holds.pages c.in-Some.ensures.found.run)
+returns-in_ok-refuse-in-None-clause-lent c = λ found. (
+    let w = c.args.self.now in
+    let none : HasNoRun (heap_of w).pages (pages_needed (wished_size (wish_at (command_at w.program (heap_of w) c.args.parcel.now.owner)))) =
+    subst (λ (t : ℕ). HasNoRun (heap_of w).pages (pages_needed (wished_size (wish_at (command_at w.program (heap_of w) t))))) c.owner-t.ensures
+    (let t = c.owner-t.result in
+    let needed = needed_is c.pages_needed-pages.result c.size_of.result c.wished-making.result (wish_at (command_at w.program (heap_of w) t))
+    c.pages_needed-pages.ensures.value c.size_of.ensures c.wished-making.ensures.wish in
+    subst (λ (k : ℕ). HasNoRun (heap_of w).pages k) needed
+    (no_run_there c.self.inside w c.self.invariant c.self.view_is c.pages_needed-pages.result c.in-None.ensures.none)) in
+    none (found.0) found.1)

@@ -1,7 +1,6 @@
 -- What a thread does next, by its state and its command.
 use Rattle.std.proofs.Common.{◌≡◌, ℕ, ◌<◌, length, arith, subst, ap, ◌∙◌, sym, refl, Option, Some, None, false}
 use Rattle.heap_terms.specs.declared.commands.Command.{Command}
-use Rattle.heap_terms.specs.declared.kinds.PageType.TheVariants as types
 use Rattle.heap_terms.specs.declared.pages.Next.{Next}
 use Rattle.heap_terms.specs.declared.pages.Next.TheVariants as nexts
 use Rattle.heap_terms.specs.Heap.{thread_at}
@@ -13,10 +12,10 @@ use Rattle.lisp_heap.specs.Agreement.{Agrees, CanBuild}
 use Rattle.lisp_heap.specs.WorldSound.{view_of, IsSound}
 use Rattle.lisp_heap.specs.State.{state_of}
 use Rattle.lisp_heap.specs.View.{View, heap_of, next_of}
-use Rattle.lisp_heap.specs.Wishes.{Wishes}
 use Rattle.lisp_heap.specs.declared.states.ThreadState.{ThreadState}
 use Rattle.lisp_heap.specs.declared.world.World.TheInside.{Inside}
-use Rattle.lisp_heap.proofs.Nexts.{next_done, next_alive, can_build, open_page_below}
+use Rattle.lisp_heap.proofs.Nexts.{next_done, next_alive, can_build}
+use Rattle.lisp_heap.proofs.PageReading.{pages_in, run_in}
 use Rattle.lisp_heap.proofs.Soundness.{heap, well_formed, states_length}
 use Rattle.lisp_heap.proofs.WordReading.{thread_in, state_is}
 use Rattle.lisp_heap.proofs.world.World.next.Goals as goal
@@ -44,13 +43,17 @@ pub next_for-requires : goal.next_for-requires
 next_for-requires c =
     let lt = thread_in c.self.inside c.args.self.now c.self.view_is c.args.t c.requires in
     let state = state_is c.self.inside c.self.invariant c.args.t c.at-state.result lt c.at-state.ensures in
+    let known : c.at-state.result ≡ state_of (thread_at (heap_of c.args.self.now) c.args.t) =
+    subst (λ (w : View). c.at-state.result ≡ state_of (thread_at (heap_of w) c.args.t)) c.self.view_is state in
     let at : command_at c.self.inside.program (heap c.self.inside) c.args.t ≡ Some c.in-Some.command =
     subst (λ (w : View). command_at w.program (heap_of w) c.args.t ≡ Some c.in-Some.command) (sym c.self.view_is) (sym c.command.ensures ∙ c.in-Some.is) in
-    subst (λ (w : View). Wishes (heap_of w) c.at-state.result c.in-Some.command) c.self.view_is (record {
-      page = λ page e. open_page_below c.self.inside.program (heap c.self.inside) c.args.t types.Cons (well_formed c.self.inside c.self.invariant) page
-          (ap (λ (x : ThreadState). x.cons_page) (sym state) ∙ e);
-      built = (script_command c.self.inside.program c.args.t (thread_at (heap c.self.inside) c.args.t).done c.in-Some.command c.self.invariant.valid at).built;
-    })
+    record {
+      regions = record {
+        pages = λ ty. pages_in c.self.inside c.args.self.now c.self.invariant c.self.view_is c.args.t c.at-state.result ty known;
+        run = run_in c.self.inside c.args.self.now c.self.invariant c.self.view_is c.args.t c.at-state.result known;
+      };
+      in_range = (script_command c.self.inside.program c.args.t (thread_at (heap c.self.inside) c.args.t).done c.in-Some.command c.self.invariant.valid at).in_range;
+    }
 
 pub returns-in-None-clause-next : goal.returns-in-None-clause-next
 returns-in-None-clause-next c =
@@ -78,5 +81,6 @@ returns-in-Some-clause-room c = λ q owner agrees. (
     subst (λ (w : View). command_at w.program (heap_of w) c.args.t ≡ Some c.in-Some.command) (sym c.self.view_is) (sym c.command.ensures ∙ c.in-Some.is) in
     let built : Agrees (heap_of c.args.self.now) q → CanBuild (next_for (heap_of c.args.self.now) c.args.t (wish_of c.in-Some.command)) q =
     subst (λ (w : View). Agrees (heap_of w) q → CanBuild (next_for (heap_of w) c.args.t (wish_of c.in-Some.command)) q) c.self.view_is
-    (can_build c.self.inside.program (heap c.self.inside) c.args.t c.in-Some.command q (well_formed c.self.inside c.self.invariant) c.self.invariant.valid at owner) in
+    (can_build c.self.inside.program (heap c.self.inside) c.args.t c.in-Some.command q (well_formed c.self.inside c.self.invariant)
+    (script_command c.self.inside.program c.args.t (thread_at (heap c.self.inside) c.args.t).done c.in-Some.command c.self.invariant.valid at).in_range owner) in
     subst (λ (n : Next). CanBuild n q) (sym (c.next_for.ensures c.args.t state_there)) (built agrees))

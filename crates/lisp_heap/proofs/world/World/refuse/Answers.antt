@@ -4,8 +4,8 @@ use Rattle.heap_terms.specs.declared.answers.Answer.TheVariants as answers
 use Rattle.heap_terms.specs.declared.answers.Refusal.TheVariants.{Exhausted}
 use Rattle.heap_terms.specs.declared.events.Event.TheVariants.{Did}
 use Rattle.heap_terms.specs.declared.pages.Next.TheVariants as nexts
-use Rattle.heap_terms.specs.Histories.{command_at, after}
-use Rattle.heap_terms.specs.Regions.{HasNoRun}
+use Rattle.heap_terms.specs.Histories.{command_at, after, wish_at, wished_size}
+use Rattle.heap_terms.specs.Regions.{HasNoRun, pages_needed}
 use Rattle.lisp_heap.specs.Standing.{Holds}
 use Rattle.lisp_heap.specs.WorldSound.{IsSound}
 use Rattle.lisp_heap.specs.View.{View, heap_of, next_of}
@@ -56,7 +56,7 @@ sound_made c =
     let at : command_at s.program (heap s) c.args.t ≡ Some c.current-command.result =
     subst (λ (w : View). command_at w.program (heap_of w) c.args.t ≡ Some c.current-command.result) (sym c.self.view_is) c.current-command.ensures in
     let opens = subst (λ (w : View). next_of w c.args.t ≡ nexts.Open) (sym c.self.view_is) c.requires.opens in
-    let none = subst (λ (w : View). HasNoRun (heap_of w).pages 1) (sym c.self.view_is) c.requires.none in
+    let none = subst (λ (w : View). HasNoRun (heap_of w).pages (pages_needed (wished_size (wish_at (command_at w.program (heap_of w) c.args.t))))) (sym c.self.view_is) c.requires.none in
     let e = Did c.args.t c.current-command.result (answers.Refused Exhausted) in
     let held : Holds (after s.program (heap s) e) (record {
       words = s.space;
@@ -80,7 +80,7 @@ returns-clause-ok c =
     let at : command_at s.program (heap s) c.args.t ≡ Some c.current-command.result =
     subst (λ (w : View). command_at w.program (heap_of w) c.args.t ≡ Some c.current-command.result) (sym c.self.view_is) c.current-command.ensures in
     let opens = subst (λ (w : View). next_of w c.args.t ≡ nexts.Open) (sym c.self.view_is) c.requires.opens in
-    let none = subst (λ (w : View). HasNoRun (heap_of w).pages 1) (sym c.self.view_is) c.requires.none in
+    let none = subst (λ (w : View). HasNoRun (heap_of w).pages (pages_needed (wished_size (wish_at (command_at w.program (heap_of w) c.args.t))))) (sym c.self.view_is) c.requires.none in
     let e = Did c.args.t c.current-command.result (answers.Refused Exhausted) in
     happens_after s (made c) c.args.self.now c.args.t e c.self.view_is refl c.in_ok-push.ensures.items refl
     (refused_next s c.self.invariant c.args.t c.current-command.result lt at opens none) (sound_made c)
