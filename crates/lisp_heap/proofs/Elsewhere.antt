@@ -1,5 +1,5 @@
 -- Where regions lie whose pages' entries stayed.
-use Rattle.std.proofs.Common.{◌≡◌, ℕ, ◌+◌, ◌*◌, List, ap, ◌∙◌, sym, refl, Option, Some, None, option_map}
+use Rattle.std.proofs.Common.{◌≡◌, ℕ, ◌+◌, ◌*◌, List, ap, sym, refl, Option, Some, None, option_map}
 use Rattle.heap_terms.specs.declared.pages.Entry.{Entry}
 use Rattle.heap_terms.specs.Heap.{entry_at, fill_of}
 use Rattle.lisp_heap.specs.Agreement.{small_out, run_out, run_pages_of, run_type_of, type_of}

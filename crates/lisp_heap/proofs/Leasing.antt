@@ -1,5 +1,5 @@
 -- What is built in the regions of a parcel.
-use Rattle.std.proofs.Common.{◌≡◌, ℕ, ◌<◌, length, sym, ◌∙◌, ap, arith, Option, Some, None, option_map}
+use Rattle.std.proofs.Common.{◌≡◌, ◌<◌, length, sym, ◌∙◌, ap, arith, Option, Some, None, option_map}
 use Rattle.std.specs.Option.{ForSome}
 use Rattle.std.specs.Prelude.{IsSomeAnd}
 use Rattle.heap_laws.proofs.Allocating.{size_least}

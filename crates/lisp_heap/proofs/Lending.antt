@@ -1,23 +1,18 @@
 -- What a parcel's owner wants made, and where it goes.
-use Rattle.std.proofs.Common.{◌≡◌, ◌≢◌, ℕ, ◌+◌, ◌*◌, ◌<◌, length, subst, List, ap, ◌∙◌, sym, refl, Option, Some, None, IsSome}
-use Rattle.std.specs.Prelude.{IsSomeAnd}
+use Rattle.std.proofs.Common.{◌≡◌, ◌≢◌, ℕ, subst, List, ap, ◌∙◌, sym, refl, Option, Some, None, IsSome}
 use Rattle.heap_terms.specs.declared.commands.Command.{Command}
 use Rattle.heap_terms.specs.declared.pages.Entry.{Entry}
 use Rattle.heap_terms.specs.declared.pages.Next.TheVariants as nexts
-use Rattle.heap_terms.specs.Histories.{command_at, next, wish_at, wished_size}
-use Rattle.heap_terms.specs.Layout.{page_type_of, size_of}
-use Rattle.heap_terms.specs.Regions.{IsFreeRun, HasNoRun, Wish, Nothing, Make, pages_needed, wish_of}
-use Rattle.heap_laws.proofs.AtPlaces.{IsSome-value}
-use Rattle.lisp_heap.specs.Agreement.{Lends}
+use Rattle.heap_terms.specs.Histories.{command_at, next, wished_size}
+use Rattle.heap_terms.specs.Layout.{size_of}
+use Rattle.heap_terms.specs.Regions.{HasNoRun, Wish, Nothing, Make, pages_needed, wish_of}
 use Rattle.lisp_heap.specs.Wishes.{wish_for}
 use Rattle.lisp_heap.specs.WorldSound.{IsSound, view_of}
-use Rattle.lisp_heap.specs.View.{View, heap_of, next_of}
-use Rattle.lisp_heap.specs.declared.allocating.Lent.TheVariants as lents
+use Rattle.lisp_heap.specs.View.{View, heap_of}
 use Rattle.lisp_heap.specs.declared.parcels.Making.{Making}
 use Rattle.lisp_heap.specs.declared.world.World.TheInside.{Inside}
 use Rattle.lisp_heap.proofs.Soundness.{heap}
 use Rattle.lisp_heap.proofs.Wanted.{opens_wish}
-use Rattle.lisp_heap.proofs.Wishing.{open_command}
 
 -- a wish that is told as an object
 pub wished_some : (o : Option Making) (w : Wish) → wish_for o ≡ w → w ≢ Nothing → IsSome o

@@ -20,6 +20,10 @@ pub mod Elsewhere
 pub mod ParcelParts
 pub mod RegionLemmas
 pub mod Lending
+pub mod Filling
+pub mod PlacingLemmas
+pub mod PlacingAgrees
+pub mod Accepting
 pub mod Refusing
 pub mod Starting
 pub mod Ending

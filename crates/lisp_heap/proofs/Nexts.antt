@@ -81,7 +81,7 @@ pub can_build : (p : Program) (a : NamedHeap) (t : ℕ) (c : Command) (q : Parce
 can_build p a t c q wf in_range owner agrees = build_for p a t c q wf in_range owner agrees (wish_of c) refl
 
 -- whether there is room, by a state of a thread
-state_page_is : (th : Thread) (ty : PageType) → state_page (state_of th) ty ≡ open_page th ty
+pub state_page_is : (th : Thread) (ty : PageType) → state_page (state_of th) ty ≡ open_page th ty
 state_page_is th types.Cons = refl
 state_page_is th types.Boxed = refl
 state_page_is th types.Unboxed = refl

@@ -1,8 +1,7 @@
 -- The regions of a parcel one by one: what a change of one leaves, and when the parcel agrees.
-use Rattle.std.proofs.Common.{◌≡◌, ◌≢◌, ℕ, ◌+◌, ◌*◌, List, refl, sym, ◌∙◌, subst, ap, Option, Some, false, option_map, ◌⊎◌, inl, inr}
+use Rattle.std.proofs.Common.{◌≡◌, ◌≢◌, ℕ, refl, sym, ◌∙◌, ap, Option, Some, false, option_map, ◌⊎◌, inl, inr}
 use Rattle.heap_terms.specs.declared.kinds.PageType.{PageType}
 use Rattle.heap_terms.specs.declared.kinds.PageType.TheVariants as types
-use Rattle.heap_terms.specs.declared.pages.Entry.{Entry}
 use Rattle.heap_terms.specs.declared.events.Event.{Event}
 use Rattle.heap_terms.specs.declared.programs.Program.{Program}
 use Rattle.heap_terms.specs.Heap.{NamedHeap, Thread, thread_at, entry_at, open_page, with_open_page}
@@ -13,7 +12,6 @@ use Rattle.heap_laws.proofs.Allocating.{is_collection, limited, others_left}
 use Rattle.lisp_heap.specs.Agreement.{Agrees, small_out, run_out, run_type_of}
 use Rattle.lisp_heap.specs.ParcelView.{ParcelView, LeaseView, place_of, small_region, with_small}
 use Rattle.lisp_heap.specs.State.{state_with_page, state_of}
-use Rattle.lisp_heap.specs.declared.states.ThreadState.{ThreadState}
 use Rattle.lisp_heap.proofs.Elsewhere.{small_out_same, run_out_same, run_type_same}
 use Rattle.lisp_heap.proofs.Rooms.{small_agrees}
 

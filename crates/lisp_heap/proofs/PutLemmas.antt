@@ -1,7 +1,7 @@
 -- A `put` into a cons: its word is written, and the words stand for the heap with the field changed.
 use Rattle.std.proofs.Common.{◌≡◌, ◌≢◌, ℕ, zero, suc, ◌+◌, ◌*◌, ◌<◌, ◌≤◌, List, length, refl, sym, ◌∙◌, subst, ap, arith, set, length-set, get_or-set_same, get_or-set_other, inl, inr, Option, Some, None, ◌⊎◌}
 use Rattle.std.proofs.lemmas.Bool.{cases_eq}
-use Rattle.std.specs.Prelude.{slice_index, IfSome}
+use Rattle.std.specs.Prelude.{slice_index}
 use Rattle.heap_terms.specs.declared.cells.Value.{Value}
 use Rattle.heap_terms.specs.declared.cells.Value.TheVariants.{Ref}
 use Rattle.heap_terms.specs.declared.programs.Program.{Program}
@@ -13,7 +13,7 @@ use Rattle.heap_terms.specs.Referents.{with_field_at, with_field}
 use Rattle.heap_terms.specs.Stands.{WordsStand, SlotsStand, KeptStand}
 use Rattle.heap_terms.specs.WellFormed.{IsWellFormed, AreApart, IsPlaced, IsOwned}
 use Rattle.heap_terms.specs.Spelling.{word_of}
-use Rattle.heap_laws.proofs.AtPlaces.{IfSome-at, IfSome-from, IsSome-from}
+use Rattle.heap_laws.proofs.AtPlaces.{IfSome-from, IsSome-from}
 use Rattle.lisp_heap.proofs.ObjectLemmas.{object_with_field, word_of-with_field_at, name_below}
 use Rattle.lisp_heap.proofs.WordLemmas.{AreConses, cons_words, cons_at, cons_spelled, nothing_kept, outside}
 

@@ -1,26 +1,23 @@
 -- A region is opened.
-use Rattle.std.proofs.Common.{◌≡◌, ◌≢◌, ℕ, ◌+◌, ◌*◌, ◌<◌, ◌≤◌, List, length, subst, ap, ◌∙◌, sym, refl, arith, Option, Some, Bool, option_map, get_or, inl, inr}
+use Rattle.std.proofs.Common.{◌≡◌, ◌≢◌, ℕ, ◌+◌, ◌*◌, ◌<◌, ◌≤◌, List, length, subst, ap, ◌∙◌, sym, refl, arith, Some, Bool, option_map, get_or, inl, inr}
 use Rattle.std.proofs.lemmas.Bool.{cases_eq, eq-eqb, ne_eqb}
-use Rattle.std.specs.Prelude.{if◌then◌else◌, ◌==◌}
-use Rattle.heap_terms.specs.declared.commands.Command.{Command}
+use Rattle.std.specs.Prelude.{if◌then◌else◌}
 use Rattle.heap_terms.specs.declared.events.Event.TheVariants.{Opened}
 use Rattle.heap_terms.specs.declared.kinds.PageType.{PageType}
 use Rattle.heap_terms.specs.declared.pages.Entry.{Entry}
 use Rattle.heap_terms.specs.declared.pages.Entry.TheVariants.{Used}
 use Rattle.heap_terms.specs.declared.pages.Next.TheVariants as nexts
-use Rattle.heap_terms.specs.declared.programs.Program.{Program}
 use Rattle.heap_terms.specs.Heap.{NamedHeap, Thread, thread_at, with_thread, entry_at, fill_of, open_page, with_open_page}
 use Rattle.heap_terms.specs.Histories.{IsNext, IsOpening, after, command_at, next, wish_at}
-use Rattle.heap_terms.specs.Layout.{page_words, page_type_of, size_of}
-use Rattle.heap_terms.specs.Regions.{IsFreeRun, IsLowestRun, Wish, Nothing, Make, opened, pages_needed, with_run}
-use Rattle.heap_terms.specs.WellFormed.{IsWellFormed}
+use Rattle.heap_terms.specs.Layout.{page_words, size_of}
+use Rattle.heap_terms.specs.Regions.{IsFreeRun, IsLowestRun, Wish, Nothing, Make, opened, with_run}
 use Rattle.heap_laws.proofs.Allocating.{run_length, run_entry, run_cases, HasSameEntries, opened_entries, opens_run, thread_with_run, needs_least}
 use Rattle.lisp_heap.specs.Agreement.{Agrees, run_out, run_pages_of, run_type_of, small_out, type_of}
-use Rattle.lisp_heap.specs.ParcelView.{ParcelView, LeaseView, fresh_lease, place_of, small_region, with_region, with_small}
+use Rattle.lisp_heap.specs.ParcelView.{ParcelView, fresh_lease, place_of, small_region, with_region, with_small}
 use Rattle.lisp_heap.specs.View.{View, heap_of, next_of}
 use Rattle.lisp_heap.specs.WorldSound.{IsSound, parts_of, view_of}
 use Rattle.lisp_heap.specs.Standing.{Holds}
-use Rattle.lisp_heap.specs.State.{state_of, state_with_page, state_with_region, with_region_open, fresh_state}
+use Rattle.lisp_heap.specs.State.{state_of, state_with_region, with_region_open, fresh_state}
 use Rattle.lisp_heap.specs.declared.states.ThreadState.{ThreadState}
 use Rattle.lisp_heap.specs.declared.world.World.TheInside.{Inside}
 use Rattle.lisp_heap.proofs.CellLemmas.{CellsStand-with_thread}

@@ -1,5 +1,5 @@
 -- The words of the space go on standing for the heap.
-use Rattle.std.proofs.Common.{◌≡◌, ◌≢◌, ℕ, zero, suc, ◌+◌, ◌*◌, ◌<◌, ◌≤◌, List, sym, subst, ap, arith, set, get_or-set_other, inl, inr, Option, Some, ◌⊎◌}
+use Rattle.std.proofs.Common.{◌≡◌, ◌≢◌, ℕ, zero, suc, ◌+◌, ◌<◌, ◌≤◌, List, sym, subst, ap, arith, set, get_or-set_other, inl, inr, Option, Some, ◌⊎◌}
 use Rattle.std.specs.Prelude.{slice_index}
 use Rattle.heap_terms.specs.declared.cells.Value.{Value}
 use Rattle.heap_terms.specs.Heap.{NamedHeap, object_at}

@@ -144,6 +144,8 @@ impl World {
         ensures others { OnOk result (OthersAgree (heap_of self.old) (heap_of self.new) t) }
         ensures err { OnErr result (self.new ≡ self.old) }
     {
+        // Looked into here, so that what follows may use what a World keeps true.
+        let _program = &self.program;
         let Making { kind, n, .. } = making;
         if let Command::NewWeak { c, .. } = command {
             let words = [built[0], self.cell(t as usize, c)];

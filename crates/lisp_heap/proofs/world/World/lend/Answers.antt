@@ -1,8 +1,8 @@
 -- A region is lent, or there is none.
-use Rattle.std.proofs.Common.{◌≡◌, ℕ, subst, sym}
+use Rattle.std.proofs.Common.{ℕ, subst}
 use Rattle.heap_terms.specs.Histories.{command_at, wish_at, wished_size}
-use Rattle.heap_terms.specs.Regions.{HasNoRun, Make, pages_needed}
-use Rattle.lisp_heap.specs.View.{View, heap_of}
+use Rattle.heap_terms.specs.Regions.{HasNoRun, pages_needed}
+use Rattle.lisp_heap.specs.View.{heap_of}
 use Rattle.lisp_heap.proofs.Lending.{needed_is, no_run_there}
 use Rattle.lisp_heap.proofs.world.World.lend.Goals as goal
 
