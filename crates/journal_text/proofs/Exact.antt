@@ -187,7 +187,7 @@ pub record Fronted (text : List ℕ) : Type 0 where
   pub high : head ≤ 57
   pub plain : get_or text 1 0 ≡ 120 → ⊥
 
-decimal_front : (n : ℕ) → n < 2 ^ 64 → Fronted (decimal n)
+pub decimal_front : (n : ℕ) → n < 2 ^ 64 → Fronted (decimal n)
 decimal_front n small = at (decimal n) (decimal_some n small) (decimal_digits n small)
   where
     at : (xs : List ℕ) → 0 < length xs → list_all is_decimal xs ≡ true → Fronted xs

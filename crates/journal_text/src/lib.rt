@@ -2,8 +2,10 @@
 #![tactic(auto)]
 
 mod faults;
+mod laws;
 mod parsing;
 mod printing;
 
 pub use faults::JournalFault;
+pub use laws::texts_are_distinct;
 pub use printing::print;

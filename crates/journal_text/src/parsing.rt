@@ -11,5 +11,6 @@ mod openings;
 mod pieces;
 mod records;
 mod rows;
+mod stages;
 mod values;
 mod words;
