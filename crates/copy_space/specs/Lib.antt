@@ -1,0 +1,12 @@
+pub mod Marks
+pub mod Pages
+pub mod Moved
+pub mod State
+pub mod Step
+pub mod Settled
+pub mod Midway
+pub mod Frames
+pub mod Copying
+pub mod Finding
+pub mod Notes
+pub mod Clearing
