@@ -15,7 +15,9 @@ use page_table::PageTable;
 use pin_set::PinSet;
 use word_space::Space;
 
-/// The parts of a heap while one pass moves its objects, and the notes of the pass.
+/// The parts of a heap while one pass moves its objects, and the notes of the pass. When it is let go
+/// they are as it left them.
+#[derive(Drop)]
 pub struct Copier<'s, 't, 'm, 'p, 'n> {
     pub(crate) space: &'s mut Space,
     pub(crate) pages: &'t mut PageTable,

@@ -2,13 +2,17 @@
 //! and one that finds no place. Words are moved in the tests of whole passes: what a copier works
 //! on has to stand for a heap.
 
-ghost use Rattle.std.specs.Prelude.{◌≤◌, ◌≡◌, ◌%◌};
+ghost use Rattle.std.specs.Prelude.{◌≤◌, ◌≡◌, ◌%◌, [], vec_capacity};
+ghost use Rattle.heap_terms.specs.Heap.{NamedHeap};
+ghost use Rattle.copy_space.specs.Copying.{CanBegin};
 
 use crate::placing::place;
-use crate::{CullNote, Mark, Marks, Move, PagesInUse, PassNotes, SCRATCH_GENERATION};
+use crate::{Copier, CullNote, Mark, Marks, Move, PagesInUse, Pass, PassNotes, SCRATCH_GENERATION};
 use heap_terms::{Entry, PageType};
 use page_table::PageTable;
+use pin_set::PinSet;
 use std::test::Fail;
+use word_space::Space;
 
 /// Takes what another thread may own and what threads may share.
 fn crosses_threads<T: Send + Sync>(_value: &T) {}
@@ -120,4 +124,27 @@ fn marks_and_notes_are_plain_data(rt: HostRuntime) -> Result<(), Fail> {
     assert_eq!(rt; notes.moves.len() + notes.culls.len(), 2);
     crosses_threads(&notes);
     Ok(())
+}
+
+/// A copier that is let go leaves its parts as they are.
+fn begin_and_end(
+    space: &mut Space,
+    pages: &mut PageTable,
+    marks: &mut Marks,
+    pins: &PinSet,
+    notes: &mut PassNotes,
+)
+    ghost a: { NamedHeap }
+    requires begins { CanBegin a space.old pages.old marks.old pins.now.listed 0 (vec_capacity notes.old.moves) }
+    requires unmoved { notes.old.moves.items ≡ [] }
+    ensures space { space.new ≡ space.old }
+    ensures pages { pages.new ≡ pages.old }
+    ensures notes { notes.new ≡ notes.old }
+{
+    let pass = Pass {
+        generation: 0,
+        raise: false,
+    };
+    let copier = Copier::new(space, pages, marks, pins, pass, notes);
+    let _ = copier.pass();
 }
