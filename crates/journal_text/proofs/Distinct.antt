@@ -14,7 +14,7 @@ use Rattle.heap_terms.specs.declared.events.Placing.{Placing}
 use Rattle.heap_terms.specs.Text.{event_text, field, index_text, journal_text, line, name_text, number_field, pass_text, placing_text, value_text}
 use Rattle.journal_text.specs.declared.parsing.pieces.Piece.{Piece}
 use Rattle.journal_text.specs.declared.parsing.pieces.Piece.TheVariants as pieces
-use Rattle.journal_text.specs.Builder.{State, done, run}
+use Rattle.journal_text.specs.Builder.{State, done, run, start}
 use Rattle.journal_text.specs.Cursors.{is_space}
 use Rattle.journal_text.specs.Journals.{HasNoLf, TextsAreDistinct}
 use Rattle.journal_text.specs.Lines.{piece_text}
@@ -22,7 +22,7 @@ use Rattle.journal_text.specs.PieceReading.{read_line}
 use Rattle.journal_text.specs.Ranges.{AreEvents, IsEvent, IsMove, IsPin, IsCull, IsName, IsNumber32, IsPageNumber, IsPass}
 use Rattle.journal_text.proofs.Joined.{Solid, inside, joined, joined_inside, split_joined}
 use Rattle.journal_text.proofs.LineTexts.{text_joined}
-use Rattle.journal_text.proofs.Machine.{event_pieces, journal_pieces, journal_run, pass_pieces, start}
+use Rattle.journal_text.proofs.Machine.{event_pieces, journal_pieces, journal_run, pass_pieces}
 use Rattle.journal_text.proofs.Pieces.{IsPiece, piece_fields}
 use Rattle.journal_text.proofs.PiecesAgain.{line_again}
 use Rattle.journal_text.proofs.Solids.{piece_solid}

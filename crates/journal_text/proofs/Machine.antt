@@ -13,7 +13,7 @@ use Rattle.journal_text.specs.declared.parsing.pieces.Piece.{Piece}
 use Rattle.journal_text.specs.declared.parsing.pieces.Piece.TheVariants as pieces
 use Rattle.journal_text.specs.declared.parsing.stages.Stage.{Stage}
 use Rattle.journal_text.specs.declared.parsing.stages.Stage.TheVariants as stages
-use Rattle.journal_text.specs.Builder.{State, add, between, closed, closed_by, collecting, done, fresh, is_open, rank, run, swept, with_breaks, with_culls, with_freed, with_moves, with_pass, with_pins, with_queued, with_swept}
+use Rattle.journal_text.specs.Builder.{State, add, between, closed, closed_by, collecting, done, fresh, is_open, rank, run, start, swept, with_breaks, with_culls, with_freed, with_moves, with_pass, with_pins, with_queued, with_swept}
 use Rattle.journal_text.specs.LineReading.{◌>>=◌}
 
 -- the lines of a pass, of an event and of a journal
@@ -123,9 +123,9 @@ pass_run es t last ps q r rest =
     let s5 : State = with_pass e.stage (with_queued r.queued s4.pass) s4 in
     let f = entries_run freed_kinded s5 r.freed end e.low (omega (arith, e.high)) in
     let s6 : State = with_pass f.stage (with_freed r.freed s5.pass) s5 in
-    let last_step : run s6 end ≡ run (collection es t last (ps ++ (r ∷ [])) s6.pass) rest = swept_step s6 r.dead r.kept rest f.low f.high in
+    let last_step : run s6 end ≡ run (collection es t last (ps ++ (r ∷ [])) (fresh 0 0)) rest = swept_step s6 r.dead r.kept rest f.low f.high in
     let front : pass_pieces r ++ rest ≡ pieces.Pass r.generation r.target ∷ (map pieces.Move r.moves ++ p2) = simp append_assoc in
-    (s6.pass, ap (run (collection es t last ps q)) front ∙ a.goes ∙ b.goes ∙ c.goes ∙ d.goes ∙ e.goes ∙ f.goes ∙ last_step)
+    (fresh 0 0, ap (run (collection es t last ps q)) front ∙ a.goes ∙ b.goes ∙ c.goes ∙ d.goes ∙ e.goes ∙ f.goes ∙ last_step)
 
 passes_run : (es : List Event) (t last : ℕ) (ps : List PassRecord) (q : PassRecord) (rs : List PassRecord) (rest : List Piece) →
     (q2 : PassRecord) × (run (collection es t last ps q) (flat_map pass_pieces rs ++ rest) ≡ run (collection es t last (ps ++ rs) q2) rest)
@@ -162,10 +162,6 @@ events_run s es (e ∷ h) rest is =
       closes = more.closes ∙ ap Some (append_assoc es (e ∷ []) h);
       goes = ap (run s) (append_assoc (event_pieces e) (flat_map event_pieces h) rest) ∙ one.goes ∙ more.goes;
     }
-
--- no line was read yet
-abbrev pub start : State
-start = record { events = []; stage = stages.Between; thread = 0; last = 0; passes = []; pass = fresh 0 0 }
 
 pub journal_run : (h : List Event) → (s : State) × (run start (journal_pieces h) ≡ Some (done h s))
 journal_run h =

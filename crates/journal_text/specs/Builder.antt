@@ -1,11 +1,13 @@
 -- What the lines so far have left open, and what one more line makes of it.
-use Rattle.std.specs.Prelude.{ℕ, Bool, ◌&&◌, List, [], ◌∷◌, ◌++◌, length, Option, Some, None, if◌then◌else◌, nat_le, ◌==◌}
+use Rattle.std.specs.Prelude.{◌≡◌, Result, Ok, Err, ℕ, Bool, ◌&&◌, List, [], ◌∷◌, ◌++◌, length, Option, Some, None, if◌then◌else◌, nat_le, ◌==◌}
 use Rattle.heap_terms.specs.declared.events.Cull.{Cull}
 use Rattle.heap_terms.specs.declared.events.Event.{Event}
 use Rattle.heap_terms.specs.declared.events.Event.TheVariants.{Did, Opened, Collected, Ended}
 use Rattle.heap_terms.specs.declared.events.PassRecord.{PassRecord}
 use Rattle.heap_terms.specs.declared.events.PinAt.{PinAt}
 use Rattle.heap_terms.specs.declared.events.Placing.{Placing}
+use Rattle.journal_text.specs.declared.parsing.faults.LineFault.{LineFault}
+use Rattle.journal_text.specs.declared.parsing.faults.LineFault.TheVariants as faults
 use Rattle.journal_text.specs.declared.parsing.pieces.Piece.{Piece}
 use Rattle.journal_text.specs.declared.parsing.pieces.Piece.TheVariants as pieces
 use Rattle.journal_text.specs.declared.parsing.stages.Stage.{Stage}
@@ -100,7 +102,7 @@ with_swept dead kept r = record { generation = r.generation; target = r.target; 
 
 -- the pass is over
 abbrev pub swept : ℕ → ℕ → State → State
-swept dead kept s = record { events = s.events; stage = stages.Collecting; thread = s.thread; last = s.last; passes = s.passes ++ with_swept dead kept s.pass ∷ []; pass = s.pass }
+swept dead kept s = record { events = s.events; stage = stages.Collecting; thread = s.thread; last = s.last; passes = s.passes ++ with_swept dead kept s.pass ∷ []; pass = fresh 0 0 }
 
 abbrev pub done : List Event → State → State
 done events s = record { events = events; stage = stages.Done; thread = s.thread; last = s.last; passes = []; pass = s.pass }
@@ -123,3 +125,29 @@ add s (pieces.Done n) = closed s >>= λ events. if length events == n then Some 
 abbrev pub run : State → List Piece → Option State
 run s [] = Some s
 run s (p ∷ ps) = add s p >>= λ t. run t ps
+
+-- no line was read yet
+abbrev pub start : State
+start = record { events = []; stage = stages.Between; thread = 0; last = 0; passes = []; pass = fresh 0 0 }
+
+-- what a call with one more line answers
+abbrev pub Adds : Option State → State → Result (Unit {0}) LineFault → Type 0
+Adds told new (Ok x) = told ≡ Some new
+Adds told new (Err faults.Form) = told ≡ None
+Adds told new (Err faults.Memory) = Unit {0}
+
+-- the collection that may be open became an event; what else stands is as it was
+pub record Same (old new : State) : Type 0 where
+  pub events : closed old ≡ Some new.events
+  pub thread : new.thread ≡ old.thread
+  pub last : new.last ≡ old.last
+  pub pass : new.pass ≡ old.pass
+
+abbrev pub Closed : State → State → Result (Unit {0}) LineFault → Type 0
+Closed old new (Ok x) = Same old new
+Closed old new (Err faults.Form) = closed old ≡ None
+Closed old new (Err faults.Memory) = Unit {0}
+
+-- the same of the line as it was read
+abbrev pub AddsLine : State → Option Piece → State → Result (Unit {0}) LineFault → Type 0
+AddsLine old told new result = Adds (told >>= λ piece. add old piece) new result

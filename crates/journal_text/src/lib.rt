@@ -8,4 +8,5 @@ mod printing;
 
 pub use faults::JournalFault;
 pub use laws::texts_are_distinct;
+pub use parsing::parse;
 pub use printing::print;

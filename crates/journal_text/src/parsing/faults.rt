@@ -1,8 +1,11 @@
 //! Why a line is not read.
 
 ghost use Rattle.std.specs.Prelude.{◌≡◌};
+ghost use Rattle.journal_text.specs.Numbering.{fault_at};
 ghost use Rattle.journal_text.specs.declared.parsing.faults.LineFault.TheVariants.{Memory};
 
+use crate::faults::JournalFault;
+use heap_terms::Why;
 use std::alloc::{AllocError, AllocFailed};
 
 /// Why a line is not read.
@@ -12,6 +15,18 @@ pub(crate) enum LineFault {
     Form,
     /// Want of memory.
     Memory,
+}
+
+impl LineFault {
+    /// The fault of a journal in which the line has this number.
+    pub(crate) fn at(self, number: u32) -> JournalFault
+        ensures { result ≡ fault_at self number }
+    {
+        match self {
+            LineFault::Form => JournalFault::Line(number, Why::Form),
+            LineFault::Memory => JournalFault::Memory,
+        }
+    }
 }
 
 impl From<AllocError> for LineFault {
