@@ -5,6 +5,7 @@ pub mod Cuts
 pub mod Distinct
 pub mod Ends
 pub mod Exact
+pub mod Exactly
 pub mod HexDigits
 pub mod Joined
 pub mod LineTexts

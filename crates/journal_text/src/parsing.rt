@@ -1,6 +1,8 @@
 //! Reading a journal.
 
-ghost use Rattle.std.specs.Prelude.{ℕ, List, ◌≡◌, ◌≢◌, ◌-◌, ◌∷◌, ◌++◌, ◌<◌, ◌≤◌, ◌^◌, length, slice_index, IfOk, IfErr, MatchOption};
+ghost use Rattle.std.specs.Prelude.{ℕ, List, ◌≡◌, ◌≢◌, ◌-◌, ◌∷◌, ◌++◌, ◌<◌, ◌≤◌, ◌^◌, length, slice_index, IfOk, IfErr, MatchOption, MatchResult};
+ghost use Rattle.heap_terms.specs.declared.events.Event.{Event as HeapEvent};
+ghost use Rattle.journal_text.specs.declared.faults.JournalFault.TheVariants.{Memory};
 ghost use Rattle.journal_text.specs.Journals.{HasNoLf, IsFault, IsJournal};
 
 mod answers;
@@ -58,6 +60,17 @@ pub fn parse(alloc: Global, bytes: &[u8]) -> Result<Vec<Event>, JournalFault>
     // What is answered is what the journal tells.
     ensures journal { IfOk result (λ events. IsJournal bytes.now events.items) }
     // A fault is where the bytes stop being a journal; want of memory alone is free.
+    ensures fault { IfErr result (λ fault. IsFault fault bytes.now) }
+    // A journal is read as the events that it tells, unless memory runs out.
+    ensures exact { (h : List HeapEvent) → IsJournal bytes.now h → MatchResult result (λ events. events.items ≡ h) (λ fault. fault ≡ Memory) }
+{
+    events_of(alloc, bytes)
+}
+
+/// The same, without the clause that follows from the others.
+fn events_of(alloc: Global, bytes: &[u8]) -> Result<Vec<Event>, JournalFault>
+    requires { length bytes.now < 2 ^ 32 - 1 }
+    ensures journal { IfOk result (λ events. IsJournal bytes.now events.items) }
     ensures fault { IfErr result (λ fault. IsFault fault bytes.now) }
 {
     let mut reader = Reader::new(alloc);

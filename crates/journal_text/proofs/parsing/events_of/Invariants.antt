@@ -1,6 +1,6 @@
 use Rattle.std.proofs.Common.{length}
 use Rattle.journal_text.proofs.Prefixes.{Reading}
-use Rattle.journal_text.proofs.parsing.parse.Given as goal
+use Rattle.journal_text.proofs.parsing.events_of.Given as goal
 
 abbrev pub invariant-loop-content : goal.invariant-loop-content
 invariant-loop-content l = Reading l.bytes l.rest l.number l.reader
