@@ -2,3 +2,4 @@
 pub mod ObjectCount
 pub mod OnlyConses
 pub mod PlainEvents
+pub mod InhibitsFew

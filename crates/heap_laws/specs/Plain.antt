@@ -1,5 +1,5 @@
 -- What stands in the events of a valid program: the commands that are built, and numbers in their ranges.
-use Rattle.std.specs.Prelude.{◌<◌, ◌≤◌, All}
+use Rattle.std.specs.Prelude.{◌<◌, ◌≤◌, ◌^◌, All}
 use Rattle.heap_terms.specs.declared.answers.Answer.{Answer}
 use Rattle.heap_terms.specs.declared.answers.Answer.TheVariants.{Done, Val, Word, Yes, No, Absent, Live, Broken, Count, Ran, Page, Stat, Placed, Refused}
 use Rattle.heap_terms.specs.declared.cells.Value.{Value}
@@ -17,13 +17,13 @@ IsPlainValue Nil = Unit {0}
 IsPlainValue Unbound = ⊥
 IsPlainValue (Ref name) = name < MOST_COMMANDS
 
--- the answers of the commands that are built; an index is that of one of at most 1,024 pages' words
+-- the answers of the commands that are built; a raw word has 64 bits, and an index is that of one of at most 1,024 pages' words
 abbrev pub IsPlainAnswer : Answer → Type 0
 IsPlainAnswer Done = Unit {0}
 IsPlainAnswer (Val v) = IsPlainValue v
-IsPlainAnswer (Word w) = ⊥
-IsPlainAnswer Yes = ⊥
-IsPlainAnswer No = ⊥
+IsPlainAnswer (Word w) = w < 2 ^ 64
+IsPlainAnswer Yes = Unit {0}
+IsPlainAnswer No = Unit {0}
 IsPlainAnswer Absent = ⊥
 IsPlainAnswer (Live v) = ⊥
 IsPlainAnswer Broken = ⊥

@@ -4,22 +4,25 @@ use Rattle.std.proofs.lemmas.Bool.{cases_eq}
 use Rattle.std.specs.Prelude.{slice_index, slice_index_or}
 use Rattle.heap_terms.specs.declared.cells.Cell.{Cell}
 use Rattle.heap_terms.specs.declared.cells.Cell.TheVariants.{Stack, Exact, Shared}
+use Rattle.heap_terms.specs.declared.cells.Raw.{Raw}
 use Rattle.heap_terms.specs.declared.cells.Value.{Value}
 use Rattle.heap_terms.specs.Cells.{with_cell, cell_value}
 use Rattle.heap_terms.specs.Heap.{NamedHeap, Thread, thread_at, with_thread, zero_value}
 use Rattle.heap_terms.specs.Objects.{Object}
-use Rattle.heap_terms.specs.Valid.{IsCell}
+use Rattle.heap_terms.specs.RawCells.{raw_value, with_raw}
+use Rattle.heap_terms.specs.Valid.{IsCell, IsRaw}
 use Rattle.heap_terms.specs.Spelling.{word_of}
-use Rattle.lisp_heap.specs.CellsView.{CellsView, spot, with_cell_word, cell_word}
+use Rattle.lisp_heap.specs.CellsView.{CellsView, spot, raw_spot, with_cell_word, cell_word, raw_word, with_raw_word}
 use Rattle.lisp_heap.specs.Standing.{CellsStand}
 use Rattle.lisp_heap.proofs.Threads.{thread_at-same, thread_at-other, thread_part}
 
 -- a change of a thread that leaves its cells alone
 pub CellsStand-with_thread : (a : NamedHeap) (t : ℕ) (th : Thread) (v : CellsView) → th.stack ≡ (thread_at a t).stack →
-    th.exact ≡ (thread_at a t).exact → CellsStand a v → CellsStand (with_thread a t th) v
-CellsStand-with_thread a t th v stack exact s = record {
+    th.exact ≡ (thread_at a t).exact → th.raws ≡ (thread_at a t).raws → CellsStand a v → CellsStand (with_thread a t th) v
+CellsStand-with_thread a t th v stack exact raws s = record {
   stack_length = s.stack_length ∙ ap (λ n. 16 * n) (sym (length-set a.threads t th));
   exact_length = s.exact_length ∙ ap (λ n. 16 * n) (sym (length-set a.threads t th));
+  raws_length = s.raws_length ∙ ap (λ n. 8 * n) (sym (length-set a.threads t th));
   shared_length = s.shared_length;
   stack = λ u i hu hi. (
       let lt : u < length a.threads = subst (λ (n : ℕ). u < n) (length-set a.threads t th) hu in
@@ -27,6 +30,9 @@ CellsStand-with_thread a t th v stack exact s = record {
   exact = λ u i hu hi. (
       let lt : u < length a.threads = subst (λ (n : ℕ). u < n) (length-set a.threads t th) hu in
       s.exact u i lt hi ∙ ap (λ (xs : List Value). word_of a.objects (get_or xs i zero_value)) (sym (thread_part (λ (x : Thread). x.exact) a t u th exact lt)));
+  raws = λ u i hu hi. (
+      let lt : u < length a.threads = subst (λ (n : ℕ). u < n) (length-set a.threads t th) hu in
+      s.raws u i lt hi ∙ ap (λ (xs : List ℕ). get_or xs i 0) (sym (thread_part (λ (x : Thread). x.raws) a t u th raws lt)));
   shared = s.shared;
 }
 
@@ -44,9 +50,11 @@ pub CellsStand-objects : (a : NamedHeap) (objects : List (Option Object)) (v : C
 CellsStand-objects a objects v keeps s = record {
   stack_length = s.stack_length;
   exact_length = s.exact_length;
+  raws_length = s.raws_length;
   shared_length = s.shared_length;
   stack = λ t i ht hi. s.stack t i ht hi ∙ sym (keeps.stack t i ht hi);
   exact = λ t i ht hi. s.exact t i ht hi ∙ sym (keeps.exact t i ht hi);
+  raws = s.raws;
   shared = λ i hi. s.shared i hi ∙ sym (keeps.shared i hi);
 }
 
@@ -76,6 +84,7 @@ CellsStand-with_cell a t (Stack i) value word v hi ht stack_long exact_long shar
     record {
       stack_length = length-set v.stack (spot t i) word ∙ s.stack_length ∙ ap (λ n. 16 * n) (sym (length-set a.threads t th));
       exact_length = s.exact_length ∙ ap (λ n. 16 * n) (sym (length-set a.threads t th));
+      raws_length = s.raws_length ∙ ap (λ n. 8 * n) (sym (length-set a.threads t th));
       shared_length = s.shared_length;
       stack = λ u j hu hj. (
           let lu : u < length a.threads = subst (λ (n : ℕ). u < n) (length-set a.threads t th) hu in
@@ -96,6 +105,9 @@ CellsStand-with_cell a t (Stack i) value word v hi ht stack_long exact_long shar
       exact = λ u j hu hj. (
           let lu : u < length a.threads = subst (λ (n : ℕ). u < n) (length-set a.threads t th) hu in
           s.exact u j lu hj ∙ ap (λ (xs : List Value). word_of a.objects (get_or xs j zero_value)) (sym (thread_part (λ (x : Thread). x.exact) a t u th refl lu)));
+      raws = λ u j hu hj. (
+          let lu : u < length a.threads = subst (λ (n : ℕ). u < n) (length-set a.threads t th) hu in
+          s.raws u j lu hj ∙ ap (λ (xs : List ℕ). get_or xs j 0) (sym (thread_part (λ (x : Thread). x.raws) a t u th refl lu)));
       shared = s.shared;
     }
 CellsStand-with_cell a t (Exact i) value word v hi ht stack_long exact_long shared_long is s =
@@ -103,6 +115,7 @@ CellsStand-with_cell a t (Exact i) value word v hi ht stack_long exact_long shar
     record {
       stack_length = s.stack_length ∙ ap (λ n. 16 * n) (sym (length-set a.threads t th));
       exact_length = length-set v.exact (spot t i) word ∙ s.exact_length ∙ ap (λ n. 16 * n) (sym (length-set a.threads t th));
+      raws_length = s.raws_length ∙ ap (λ n. 8 * n) (sym (length-set a.threads t th));
       shared_length = s.shared_length;
       stack = λ u j hu hj. (
           let lu : u < length a.threads = subst (λ (n : ℕ). u < n) (length-set a.threads t th) hu in
@@ -123,14 +136,19 @@ CellsStand-with_cell a t (Exact i) value word v hi ht stack_long exact_long shar
                 get_or-set_other v.exact (spot t i) (spot u j) word 0 apart ∙ s.exact u j lu hj
                 ∙ ap (λ (x : Thread). word_of a.objects (get_or x.exact j zero_value)) (sym (thread_at-other a t u th n)))
           ]);
+      raws = λ u j hu hj. (
+          let lu : u < length a.threads = subst (λ (n : ℕ). u < n) (length-set a.threads t th) hu in
+          s.raws u j lu hj ∙ ap (λ (xs : List ℕ). get_or xs j 0) (sym (thread_part (λ (x : Thread). x.raws) a t u th refl lu)));
       shared = s.shared;
     }
 CellsStand-with_cell a t (Shared i) value word v hi ht stack_long exact_long shared_long is s = record {
   stack_length = s.stack_length;
   exact_length = s.exact_length;
+  raws_length = s.raws_length;
   shared_length = length-set v.shared i word ∙ s.shared_length;
   stack = s.stack;
   exact = s.exact;
+  raws = s.raws;
   shared = λ j hj. elim (cases_eq j i) [
     | inl e ↦ (
         let inside : i < length v.shared = omega (arith, s.shared_length) in
@@ -147,3 +165,56 @@ pub CellsStand-read : (a : NamedHeap) (t : ℕ) (cell : Cell) (v : CellsView) �
 CellsStand-read a t (Stack i) v hi ht s = s.stack t i ht hi
 CellsStand-read a t (Exact i) v hi ht s = s.exact t i ht hi
 CellsStand-read a t (Shared i) v hi ht s = s.shared i hi
+
+-- a word is put into a raw cell
+pub CellsStand-with_raw : (a : NamedHeap) (t : ℕ) (r : Raw) (word : ℕ) (v : CellsView) → IsRaw r → t < length a.threads →
+    length (thread_at a t).raws ≡ 8 → CellsStand a v → CellsStand (with_raw a t r word) (with_raw_word v t r word)
+CellsStand-with_raw a t r word v hi ht long s =
+    let th : Thread = record (thread_at a t) { raws = set (thread_at a t).raws r.0 word } in
+    record {
+      stack_length = s.stack_length ∙ ap (λ n. 16 * n) (sym (length-set a.threads t th));
+      exact_length = s.exact_length ∙ ap (λ n. 16 * n) (sym (length-set a.threads t th));
+      raws_length = length-set v.raws (raw_spot t r.0) word ∙ s.raws_length ∙ ap (λ n. 8 * n) (sym (length-set a.threads t th));
+      shared_length = s.shared_length;
+      stack = λ u j hu hj. (
+          let lu : u < length a.threads = subst (λ (n : ℕ). u < n) (length-set a.threads t th) hu in
+          s.stack u j lu hj ∙ ap (λ (xs : List Value). word_of a.objects (get_or xs j zero_value)) (sym (thread_part (λ (x : Thread). x.stack) a t u th refl lu)));
+      exact = λ u j hu hj. (
+          let lu : u < length a.threads = subst (λ (n : ℕ). u < n) (length-set a.threads t th) hu in
+          s.exact u j lu hj ∙ ap (λ (xs : List Value). word_of a.objects (get_or xs j zero_value)) (sym (thread_part (λ (x : Thread). x.exact) a t u th refl lu)));
+      raws = λ u j hu hj. (
+          let lu : u < length a.threads = subst (λ (n : ℕ). u < n) (length-set a.threads t th) hu in
+          elim (cases_eq u t) [
+            | inl e ↦ (
+                let own : (thread_at (with_thread a t th) u).raws ≡ set (thread_at a t).raws r.0 word =
+                ap (λ (x : Thread). x.raws) (subst (λ (k : ℕ). thread_at (with_thread a t th) k ≡ th) (sym e) (thread_at-same a t th ht)) in
+                let before : slice_index v.raws (raw_spot u j) ≡ get_or (thread_at a t).raws j 0 =
+                subst (λ (k : ℕ). slice_index v.raws (raw_spot u j) ≡ get_or (thread_at a k).raws j 0) e (s.raws u j lu hj) in
+                raw_written v.raws (thread_at a t).raws t r.0 u j word (omega arith) (omega (arith, s.raws_length, hi)) (omega (arith, long, hi)) before e hj
+                ∙ ap (λ (xs : List ℕ). get_or xs j 0) (sym own))
+            | inr n ↦ (
+                let apart : raw_spot u j ≢ raw_spot t r.0 = λ h. n (omega (arith, h, hi, hj)) in
+                get_or-set_other v.raws (raw_spot t r.0) (raw_spot u j) word 0 apart ∙ s.raws u j lu hj
+                ∙ ap (λ (x : Thread). get_or x.raws j 0) (sym (thread_at-other a t u th n)))
+          ]);
+      shared = s.shared;
+    }
+  where
+    raw_written : (words values : List ℕ) (t i u j word : ℕ) → i < 8 → raw_spot t i < length words → i < length values →
+        slice_index words (raw_spot u j) ≡ get_or values j 0 → u ≡ t → j < 8 →
+        slice_index (set words (raw_spot t i) word) (raw_spot u j) ≡ get_or (set values i word) j 0
+    raw_written words values t i u j word hi inside below before same hj = elim (cases_eq j i) [
+      | inl e ↦ (
+          let here : raw_spot u j ≡ raw_spot t i = omega arith in
+          subst (λ (k : ℕ). get_or (set words (raw_spot t i) word) k 0 ≡ get_or (set values i word) j 0) (sym here)
+          (get_or-set_same words (raw_spot t i) word 0 inside
+          ∙ sym (subst (λ (k : ℕ). get_or (set values i word) k 0 ≡ word) (sym e) (get_or-set_same values i word 0 below))))
+      | inr n ↦ (
+          let apart : raw_spot u j ≢ raw_spot t i = λ h. n (omega arith) in
+          get_or-set_other words (raw_spot t i) (raw_spot u j) word 0 apart ∙ before ∙ sym (get_or-set_other values i j word 0 n))
+    ]
+
+-- the word in a raw cell is that of the thread
+pub CellsStand-raw : (a : NamedHeap) (t : ℕ) (r : Raw) (v : CellsView) → IsRaw r → t < length a.threads → CellsStand a v →
+    raw_word v t r ≡ raw_value a t r
+CellsStand-raw a t r v hi ht s = s.raws t r.0 ht hi

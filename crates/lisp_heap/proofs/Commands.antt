@@ -1,6 +1,5 @@
 -- Which commands a valid program has at a thread's place.
-use Rattle.std.proofs.Common.{◌≡◌, ℕ, ℤ, refl, Some}
-use Rattle.heap_terms.specs.declared.cells.Cell.{Cell}
+use Rattle.std.proofs.Common.{◌≡◌, ℕ, Some}
 use Rattle.heap_terms.specs.declared.commands.Command.{Command}
 use Rattle.heap_terms.specs.declared.commands.Command.TheVariants as commands
 use Rattle.heap_terms.specs.declared.pages.Next.TheVariants as nexts
@@ -18,20 +17,42 @@ simple_wish p a t c at e =
     let parts = next_parts p a t nexts.Simple e (λ d. cc) (λ last d. cc) in
     simple_for a t (wish_of c) (next_with_command a t (command_at p a t) c nexts.Simple at parts.1)
 
-four : (c : Command) → IsBuilt c → wish_of c ≡ Nothing → ((d : Cell) (n : ℤ) → c ≡ commands.Fix d n → ⊥) →
-    ((d k : Cell) (i : ℕ) → c ≡ commands.Get d k i → ⊥) → ((k : Cell) (i : ℕ) (b : Cell) → c ≡ commands.Put k i b → ⊥) →
-    ((k : Cell) → c ≡ commands.Show k → ⊥) → ⊥
-four (commands.Fix d n) built wish fix get put show = fix d n refl
-four (commands.NewCons d a b) built wish fix get put show = cc
-four (commands.Get d k i) built wish fix get put show = get d k i refl
-four (commands.Put k i b) built wish fix get put show = put k i b refl
-four (commands.Show k) built wish fix get put show = show k refl
-four _ built wish fix get put show = absurd built
+-- the commands that allocate nothing and are built
+abbrev pub IsSimple : Command → Type 0
+IsSimple (commands.Fix d n) = Unit {0}
+IsSimple (commands.MakeNil d) = Unit {0}
+IsSimple (commands.Move d c) = Unit {0}
+IsSimple (commands.Get d c i) = Unit {0}
+IsSimple (commands.Put c i b) = Unit {0}
+IsSimple (commands.RawGet r c i) = Unit {0}
+IsSimple (commands.RawPut c i r) = Unit {0}
+IsSimple (commands.Same x y) = Unit {0}
+IsSimple (commands.Show c) = Unit {0}
+IsSimple (commands.Addr r c) = Unit {0}
+IsSimple (commands.SetRaw r w) = Unit {0}
+IsSimple (commands.AddRaw r k) = Unit {0}
+IsSimple commands.Inhibit = Unit {0}
+IsSimple commands.Allow = Unit {0}
+IsSimple _ = ⊥
 
--- it is one of four
-pub one_of_four : (p : Program) (a : NamedHeap) (t : ℕ) (c : Command) → IsValid p → command_at p a t ≡ Some c → next p a t ≡ nexts.Simple →
-    ((d : Cell) (n : ℤ) → c ≡ commands.Fix d n → ⊥) →
-    ((d k : Cell) (i : ℕ) → c ≡ commands.Get d k i → ⊥) → ((k : Cell) (i : ℕ) (b : Cell) → c ≡ commands.Put k i b → ⊥) →
-    ((k : Cell) → c ≡ commands.Show k → ⊥) → ⊥
-one_of_four p a t c valid at e fix get put show =
-    four c (script_built p t (thread_at a t).done c valid at) (simple_wish p a t c at e) fix get put show
+simple : (c : Command) → IsBuilt c → wish_of c ≡ Nothing → IsSimple c
+simple (commands.Fix d n) built wish = tt
+simple (commands.MakeNil d) built wish = tt
+simple (commands.Move d c) built wish = tt
+simple (commands.NewCons d a b) built wish = cc
+simple (commands.Get d c i) built wish = tt
+simple (commands.Put c i b) built wish = tt
+simple (commands.RawGet r c i) built wish = tt
+simple (commands.RawPut c i r) built wish = tt
+simple (commands.Same x y) built wish = tt
+simple (commands.Show c) built wish = tt
+simple (commands.Addr r c) built wish = tt
+simple (commands.SetRaw r w) built wish = tt
+simple (commands.AddRaw r k) built wish = tt
+simple commands.Inhibit built wish = tt
+simple commands.Allow built wish = tt
+simple _ built wish = absurd built
+
+-- what a thread does that allocates nothing is one of these
+pub is_simple : (p : Program) (a : NamedHeap) (t : ℕ) (c : Command) → IsValid p → command_at p a t ≡ Some c → next p a t ≡ nexts.Simple → IsSimple c
+is_simple p a t c valid at e = simple c (script_built p t (thread_at a t).done c valid at) (simple_wish p a t c at e)

@@ -1,6 +1,7 @@
 -- What a World keeps after the end of a thread.
-use Rattle.std.proofs.Common.{◌≡◌, ◌≢◌, ℕ, ◌+◌, ◌-◌, ◌*◌, ◌<◌, ◌≤◌, List, ◌++◌, length, take, drop, replicate, refl, sym, ◌∙◌, subst, ap, arith, get_or, length-set, inl, inr, Option, option_map, true}
+use Rattle.std.proofs.Common.{◌≡◌, ◌≢◌, ℕ, ◌+◌, ◌-◌, ◌*◌, ◌<◌, ◌≤◌, List, ◌++◌, length, take, drop, replicate, refl, sym, ◌∙◌, subst, ap, arith, get_or, length-set, inl, inr, Option, option_map, true, ◌⊎◌}
 use Rattle.std.proofs.lemmas.Bool.{cases_eq, cases_lt}
+use Rattle.std.proofs.Math.Nat.{mul-le-mul_left, mul-add}
 use Rattle.std.proofs.lemmas.List.{length-append, length-drop, length-take-le, length-replicate, get_or-replicate, get_or-take, get_or-drop, get_or-append-add, get_or_append_left}
 use Rattle.std.specs.Prelude.{slice_index, slice_index_or}
 use Rattle.heap_terms.specs.declared.cells.Value.{Value}
@@ -12,7 +13,7 @@ use Rattle.heap_terms.specs.Histories.{IsNext, after, next}
 use Rattle.heap_terms.specs.Objects.{Object}
 use Rattle.heap_terms.specs.Spelling.{word_of}
 use Rattle.lisp_heap.specs.Agreement.{Agrees, small_out, run_out, run_type_of}
-use Rattle.lisp_heap.specs.CellsView.{CellsView, spot, cleared, with_cleared}
+use Rattle.lisp_heap.specs.CellsView.{CellsView, spot, raw_spot, cleared, with_cleared}
 use Rattle.lisp_heap.specs.ParcelView.{ParcelView, empty_parcel}
 use Rattle.lisp_heap.specs.Parts.{Parts}
 use Rattle.lisp_heap.specs.Standing.{CellsStand, Holds}
@@ -68,39 +69,61 @@ spliced_after words zeros from n i z h =
 
 -- ---- the cells of one thread cleared
 
-cleared_length : (words : List ℕ) (t : ℕ) → 16 * t + 16 ≤ length words → length (cleared words t) ≡ length words
-cleared_length words t h = spliced_length words (replicate 16 0) (16 * t) 16 (length-replicate {A = ℕ} 16 0) h
+cleared_length : (each : ℕ) (words : List ℕ) (t : ℕ) → each * t + each ≤ length words → length (cleared each words t) ≡ length words
+cleared_length each words t h = spliced_length words (replicate each 0) (each * t) each (length-replicate {A = ℕ} each 0) h
 
-cleared_own : (words : List ℕ) (t i : ℕ) → 16 * t + 16 ≤ length words → i < 16 → slice_index (cleared words t) (spot t i) ≡ 0
-cleared_own words t i h lt =
-    spliced_in words (replicate 16 0) (16 * t) 16 i (length-replicate {A = ℕ} 16 0) h lt ∙ get_or-replicate 16 i 0 0 lt
+cleared_own : (each : ℕ) (words : List ℕ) (t i : ℕ) → each * t + each ≤ length words → i < each → slice_index (cleared each words t) (each * t + i) ≡ 0
+cleared_own each words t i h lt =
+    spliced_in words (replicate each 0) (each * t) each i (length-replicate {A = ℕ} each 0) h lt ∙ get_or-replicate each i 0 0 lt
 
-cleared_other : (words : List ℕ) (t u i : ℕ) → 16 * t + 16 ≤ length words → i < 16 → u ≢ t →
-    slice_index (cleared words t) (spot u i) ≡ slice_index words (spot u i)
-cleared_other words t u i h lt n = elim (cases_lt u t) [
-  | inl l ↦ (
-      let before : spot u i < 16 * t = omega arith in
-      spliced_before words (replicate 16 0) (16 * t) 16 (spot u i) (length-replicate {A = ℕ} 16 0) h before)
+-- the cells of another thread lie before or behind those of thread t
+beside : (each t u i : ℕ) → i < each → u ≢ t → (each * u + i < each * t) ⊎ (each * t + each ≤ each * u + i)
+beside each t u i lt n = elim (cases_lt u t) [
+  | inl l ↦ inl (
+      let steps : each * (u + 1) ≤ each * t = mul-le-mul_left each (omega arith) in
+      let one : each * (u + 1) ≡ each * u + each * 1 = mul-add each u 1 in
+      omega arith)
   | inr r ↦ elim (cases_eq u t) [
     | inl e ↦ absurd (n e)
-    | inr apart ↦ (
-        let there : 16 * t + 16 + (spot u i - (16 * t + 16)) ≡ spot u i = omega arith in
-        subst (λ (k : ℕ). slice_index (cleared words t) k ≡ slice_index words k) there
-        (spliced_after words (replicate 16 0) (16 * t) 16 (spot u i - (16 * t + 16)) (length-replicate {A = ℕ} 16 0) h))
+    | inr apart ↦ inr (
+        let above : t + 1 ≤ u = omega arith in
+        let steps : each * (t + 1) ≤ each * u = mul-le-mul_left each above in
+        let one : each * (t + 1) ≡ each * t + each * 1 = mul-add each t 1 in
+        omega arith)
   ]
+]
+
+cleared_other : (each : ℕ) (words : List ℕ) (t u i : ℕ) → each * t + each ≤ length words → i < each → u ≢ t →
+    slice_index (cleared each words t) (each * u + i) ≡ slice_index words (each * u + i)
+cleared_other each words t u i h lt n = elim (beside each t u i lt n) [
+  | inl before ↦ spliced_before words (replicate each 0) (each * t) each (each * u + i) (length-replicate {A = ℕ} each 0) h before
+  | inr behind ↦ (
+      let there : each * t + each + (each * u + i - (each * t + each)) ≡ each * u + i = omega arith in
+      subst (λ (k : ℕ). slice_index (cleared each words t) k ≡ slice_index words k) there
+      (spliced_after words (replicate each 0) (each * t) each (each * u + i - (each * t + each)) (length-replicate {A = ℕ} each 0) h))
 ]
 
 -- one list of cells, where thread t's are zeros from now on
 cleared_stands : (objects : List (Option Object)) (words : List ℕ) (old new : List Value) (t u i : ℕ) → 16 * t + 16 ≤ length words → i < 16 →
     (u ≡ t → new ≡ replicate 16 zero_value) → (u ≢ t → new ≡ old) → slice_index words (spot u i) ≡ word_of objects (slice_index_or old i zero_value) →
-    slice_index (cleared words t) (spot u i) ≡ word_of objects (slice_index_or new i zero_value)
+    slice_index (cleared 16 words t) (spot u i) ≡ word_of objects (slice_index_or new i zero_value)
 cleared_stands objects words old new t u i h lt own other before = elim (cases_eq u t) [
   | inl e ↦ (
-      subst (λ (k : ℕ). slice_index (cleared words t) (spot k i) ≡ 0) (sym e) (cleared_own words t i h lt)
+      subst (λ (k : ℕ). slice_index (cleared 16 words t) (spot k i) ≡ 0) (sym e) (cleared_own 16 words t i h lt)
       ∙ ap (word_of objects) (sym (get_or-replicate 16 i zero_value zero_value lt))
       ∙ ap (λ (xs : List Value). word_of objects (get_or xs i zero_value)) (sym (own e)))
   | inr n ↦ (
-      cleared_other words t u i h lt n ∙ before ∙ ap (λ (xs : List Value). word_of objects (get_or xs i zero_value)) (sym (other n)))
+      cleared_other 16 words t u i h lt n ∙ before ∙ ap (λ (xs : List Value). word_of objects (get_or xs i zero_value)) (sym (other n)))
+]
+
+-- likewise the raw cells
+raws_cleared : (words old new : List ℕ) (t u i : ℕ) → 8 * t + 8 ≤ length words → i < 8 → (u ≡ t → new ≡ replicate 8 0) → (u ≢ t → new ≡ old) →
+    slice_index words (raw_spot u i) ≡ slice_index_or old i 0 → slice_index (cleared 8 words t) (raw_spot u i) ≡ slice_index_or new i 0
+raws_cleared words old new t u i h lt own other before = elim (cases_eq u t) [
+  | inl e ↦ (
+      subst (λ (k : ℕ). slice_index (cleared 8 words t) (raw_spot k i) ≡ 0) (sym e) (cleared_own 8 words t i h lt)
+      ∙ sym (get_or-replicate 8 i 0 0 lt) ∙ ap (λ (xs : List ℕ). get_or xs i 0) (sym (own e)))
+  | inr n ↦ cleared_other 8 words t u i h lt n ∙ before ∙ ap (λ (xs : List ℕ). get_or xs i 0) (sym (other n))
 ]
 
 own_thread : (a : NamedHeap) (t u : ℕ) (th : Thread) → t < length a.threads → u ≡ t → thread_at (with_thread a t th) u ≡ th
@@ -112,9 +135,11 @@ CellsStand-ended a t v ht s =
     let th : Thread = ended_thread (thread_at a t) in
     let stack_room : 16 * t + 16 ≤ length v.stack = omega (arith, s.stack_length) in
     let exact_room : 16 * t + 16 ≤ length v.exact = omega (arith, s.exact_length) in
+    let raws_room : 8 * t + 8 ≤ length v.raws = omega (arith, s.raws_length) in
     record {
-      stack_length = cleared_length v.stack t stack_room ∙ s.stack_length ∙ ap (λ n. 16 * n) (sym (length-set a.threads t th));
-      exact_length = cleared_length v.exact t exact_room ∙ s.exact_length ∙ ap (λ n. 16 * n) (sym (length-set a.threads t th));
+      stack_length = cleared_length 16 v.stack t stack_room ∙ s.stack_length ∙ ap (λ n. 16 * n) (sym (length-set a.threads t th));
+      exact_length = cleared_length 16 v.exact t exact_room ∙ s.exact_length ∙ ap (λ n. 16 * n) (sym (length-set a.threads t th));
+      raws_length = cleared_length 8 v.raws t raws_room ∙ s.raws_length ∙ ap (λ n. 8 * n) (sym (length-set a.threads t th));
       shared_length = s.shared_length;
       stack = λ u i hu hi. (
           let lu : u < length a.threads = subst (λ (n : ℕ). u < n) (length-set a.threads t th) hu in
@@ -124,6 +149,10 @@ CellsStand-ended a t v ht s =
           let lu : u < length a.threads = subst (λ (n : ℕ). u < n) (length-set a.threads t th) hu in
           cleared_stands a.objects v.exact (thread_at a u).exact (thread_at (with_thread a t th) u).exact t u i exact_room hi
           (λ e. ap (λ (x : Thread). x.exact) (own_thread a t u th ht e)) (λ n. ap (λ (x : Thread). x.exact) (thread_at-other a t u th n)) (s.exact u i lu hi));
+      raws = λ u i hu hi. (
+          let lu : u < length a.threads = subst (λ (n : ℕ). u < n) (length-set a.threads t th) hu in
+          raws_cleared v.raws (thread_at a u).raws (thread_at (with_thread a t th) u).raws t u i raws_room hi
+          (λ e. ap (λ (x : Thread). x.raws) (own_thread a t u th ht e)) (λ n. ap (λ (x : Thread). x.raws) (thread_at-other a t u th n)) (s.raws u i lu hi));
       shared = s.shared;
     }
 

@@ -1,13 +1,15 @@
 pub mod Threads
 pub mod CellLemmas
 pub mod ObjectLemmas
-pub mod WordLemmas
+pub mod SlotChanges
 pub mod PutLemmas
 pub mod CommitLemmas
 pub mod Unchanged
 pub mod PerformLemmas
 pub mod Soundness
 pub mod WordReading
+pub mod Referring
+pub mod Spans
 pub mod Plans
 pub mod Commands
 pub mod Rooms

@@ -1,5 +1,5 @@
 -- The words of values stay while fields of objects change and objects are added.
-use Rattle.std.proofs.Common.{◌≡◌, ℕ, ◌<◌, List, [], ◌∷◌, ◌++◌, length, refl, sym, ◌∙◌, ap, inl, inr, Option, Some, None}
+use Rattle.std.proofs.Common.{◌≡◌, ℕ, ◌<◌, List, [], ◌∷◌, ◌++◌, length, refl, sym, ◌∙◌, ap, inl, inr, Option, Some, None, set}
 use Rattle.std.proofs.lemmas.Bool.{cases_lt}
 use Rattle.std.proofs.lemmas.List.{get_or_past, get_or_append_left}
 use Rattle.std.specs.Prelude.{IsSome}
@@ -7,36 +7,23 @@ use Rattle.heap_terms.specs.declared.cells.Value.{Value}
 use Rattle.heap_terms.specs.declared.cells.Value.TheVariants.{Fix, Nil, Unbound, Ref}
 use Rattle.heap_terms.specs.Heap.{object_at}
 use Rattle.heap_terms.specs.Layout.{reference_word}
-use Rattle.heap_terms.specs.Objects.{Object}
-use Rattle.heap_terms.specs.Referents.{refilled, with_field, with_field_at}
+use Rattle.heap_terms.specs.Objects.{Object, Contents, kind_of}
 use Rattle.heap_terms.specs.WellFormed.{IsLiving}
 use Rattle.heap_terms.specs.Spelling.{word_of, word_of_object}
 use Rattle.heap_laws.proofs.AtPlaces.{set_cases, IsSome-value}
-use Rattle.heap_laws.proofs.SoundHeaps.{with_field-kind}
 
--- an object in which one field changed; one that is gone stays gone
-abbrev pub object_with_field : Option Object → ℕ → Value → Option Object
-object_with_field o i v = refilled o (λ k. with_field k i v)
-
--- an object whose field changed has the same reference
-word_of_object-with_field : (o : Option Object) (i : ℕ) (w : Value) → word_of_object (object_with_field o i w) ≡ word_of_object o
-word_of_object-with_field None i w = refl
-word_of_object-with_field (Some o) i w = ap (λ k. reference_word o.place k) (with_field-kind o.contents i w)
-
--- a change of a field changes the word of no value
-pub word_of-with_field_at : (objects : List (Option Object)) (u : Value) (i : ℕ) (w v : Value) →
-    word_of (with_field_at objects u i w) v ≡ word_of objects v
-word_of-with_field_at objects u i w (Fix n) = refl
-word_of-with_field_at objects u i w Nil = refl
-word_of-with_field_at objects u i w Unbound = refl
-word_of-with_field_at objects (Fix n) i w (Ref y) = refl
-word_of-with_field_at objects Nil i w (Ref y) = refl
-word_of-with_field_at objects Unbound i w (Ref y) = refl
-word_of-with_field_at objects (Ref x) i w (Ref y) =
-    elim (set_cases objects x y (object_with_field (object_at objects x) i w) None) [
+-- an object that holds something else of its kind has the same reference, and no other value's word changes
+pub word_of-replaced : (objects : List (Option Object)) (x : ℕ) (o : Object) (k : Contents) (v : Value) → object_at objects x ≡ Some o →
+    kind_of k ≡ kind_of o.contents → word_of (set objects x (Some (record o { contents = k }))) v ≡ word_of objects v
+word_of-replaced objects x o k (Fix n) there kind = refl
+word_of-replaced objects x o k Nil there kind = refl
+word_of-replaced objects x o k Unbound there kind = refl
+word_of-replaced objects x o k (Ref y) there kind =
+    elim (set_cases objects x y (Some (record o { contents = k })) None) [
       | inl same ↦ ap word_of_object same
-      | inr changed ↦ ap word_of_object changed.2 ∙ word_of_object-with_field (object_at objects x) i w
-          ∙ ap (λ (k : ℕ). word_of_object (object_at objects k)) (sym changed.0)
+      | inr changed ↦ (
+          let before : object_at objects y ≡ Some o = ap (object_at objects) changed.0 ∙ there in
+          ap word_of_object changed.2 ∙ ap (reference_word o.place) kind ∙ ap word_of_object (sym before))
     ]
 
 -- a name that is there is below the number of names

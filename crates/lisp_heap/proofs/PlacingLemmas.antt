@@ -89,6 +89,13 @@ used_exact th size = by_size (is_small size)
     by_size true = refl
     by_size false = refl
 
+used_raws : (th : Thread) (size : ℕ) → (run_used th size).raws ≡ th.raws
+used_raws th size = by_size (is_small size)
+  where
+    by_size : (b : Bool) → (if b then th else record th { open_run = None }).raws ≡ th.raws
+    by_size true = refl
+    by_size false = refl
+
 -- the destination of a command in range is a cell
 destination_cell : (c : Command) (d : Cell) → IsInRange c → destination_of c ≡ Some d → IsCell d
 destination_cell (commands.NewCons x y z) d r e = subst (λ (k : Cell). IsCell k) (let same : x ≡ d = cc in same) r.0
@@ -239,13 +246,15 @@ module _ (s : Inside) (h : IsSound s) (t : ℕ) (c : Command) (d : Cell) (index 
         shared = λ i hi. kept (get_or a.shared i zero_value) (wf.shared i);
       }) h.holds.cells in
       let used = CellsStand-with_thread (record a { objects = new_objects }) t (run_used (thread_at a t) size) s.cells
-      (used_stack (thread_at a t) size) (used_exact (thread_at a t) size) new_cells in
+      (used_stack (thread_at a t) size) (used_exact (thread_at a t) size) (used_raws (thread_at a t) size) new_cells in
       let on_pushed : CellsStand pushed s.cells = record {
         stack_length = used.stack_length;
         exact_length = used.exact_length;
+        raws_length = used.raws_length;
         shared_length = used.shared_length;
         stack = used.stack;
         exact = used.exact;
+        raws = used.raws;
         shared = used.shared;
       } in
       let own : thread_at pushed t ≡ run_used (thread_at a t) size = thread_at-same a t (run_used (thread_at a t) size) below in
@@ -256,7 +265,7 @@ module _ (s : Inside) (h : IsSound s) (t : ℕ) (c : Command) (d : Cell) (index 
       (ap (λ (x : Thread). length x.exact) own ∙ ap length (used_exact (thread_at a t) size) ∙ th.exact_length)
       wf.shared_length (sym reference_is) on_pushed in
       CellsStand-with_thread celled t (record (thread_at celled t) { done = (thread_at celled t).done + 1 })
-      (with_cell_word s.cells t d (reference_word index kind)) refl refl on_celled
+      (with_cell_word s.cells t d (reference_word index kind)) refl refl refl on_celled
 
   -- the own state, but for its place in the script
   pub own_state : state_of (thread_at celled t) ≡ state_of (run_used (thread_at a t) size)

@@ -1,61 +1,43 @@
--- What the commands that allocate nothing answer and change, for a cons and for what is none.
-use Rattle.std.proofs.Common.{◌≡◌, ℕ, ◌+◌, ◌<◌, ◌≤◌, List, [], ◌∷◌, length, refl, sym, ◌∙◌, subst, ap, arith, get_or, Option, Some, None, Bool, ℤ, FitsSigned, w64, pos, negsuc}
-use Rattle.std.proofs.lemmas.Bool.{lt-ltb, le-ltb}
+-- What the commands that allocate nothing answer and change.
+use Rattle.std.proofs.Common.{◌≡◌, ℕ, ◌+◌, ◌-◌, ◌<◌, ◌≤◌, eqb, true, false, List, length, refl, sym, ◌∙◌, subst, ap, arith, get_or, set, length-set, Option, Some, None, Bool, ℤ, FitsSigned, w64, pos, negsuc}
+use Rattle.std.proofs.lemmas.Bool.{lt-ltb, le-ltb, eq-eqb, ne_eqb}
+use Rattle.std.proofs.lemmas.Option.{slice_get_within}
 use Rattle.std.specs.Prelude.{if◌then◌else◌, option_and_then}
 use Rattle.heap_terms.specs.declared.answers.Answer.{Answer}
 use Rattle.heap_terms.specs.declared.answers.Answer.TheVariants as answers
-use Rattle.heap_terms.specs.declared.answers.Refusal.TheVariants.{NotType, OutOfRange}
+use Rattle.heap_terms.specs.declared.answers.Refusal.TheVariants.{NotType, OutOfRange, Nothing}
 use Rattle.heap_terms.specs.declared.cells.Cell.{Cell}
+use Rattle.heap_terms.specs.declared.cells.Raw.{Raw}
 use Rattle.heap_terms.specs.declared.cells.Value.{Value}
 use Rattle.heap_terms.specs.declared.cells.Value.TheVariants as values
 use Rattle.heap_terms.specs.declared.commands.Command.{Command}
 use Rattle.heap_terms.specs.declared.commands.Command.TheVariants as commands
 use Rattle.heap_terms.specs.Cells.{cell_value, with_cell}
-use Rattle.heap_terms.specs.Heap.{NamedHeap, zero_value}
-use Rattle.heap_terms.specs.Objects.{Object, fields_of}
+use Rattle.heap_terms.specs.Heap.{NamedHeap, object_at, thread_at, with_thread, zero_value}
+use Rattle.heap_terms.specs.Layout.{fixnum_word, nil_word}
+use Rattle.heap_terms.specs.Objects.{Object, Contents, WordsOf, kind_of, payload_of, fields_of}
 use Rattle.heap_terms.specs.Outcome.{Outcome, done, answering, refused, needing, indexing}
 use Rattle.heap_terms.specs.Outcomes.{outcome_of}
-use Rattle.heap_terms.specs.Referents.{contents_of, fields_at, with_field_at}
-use Rattle.heap_terms.specs.Valid.{IsCell, IsFixnum}
+use Rattle.heap_terms.specs.Outcomes.RawCommands.{taking}
+use Rattle.heap_terms.specs.Pairs.{same_value}
+use Rattle.heap_terms.specs.RawCells.{raw_value, with_raw, word_plus}
+use Rattle.heap_terms.specs.Referents.{contents_of, fields_at, with_field, with_field_at, raws_at, raws_of, with_raws, changed_at, refilled}
+use Rattle.heap_terms.specs.Slots.{Val, Raw as RawSlot, slots}
+use Rattle.heap_terms.specs.Valid.{IsCell, IsRaw, IsFixnum}
 use Rattle.heap_terms.specs.Spelling.{word_of}
-use Rattle.heap_terms.specs.Layout.{fixnum_word}
+use Rattle.heap_laws.proofs.Reading.{with_field-kind, with_field-payload}
+use Rattle.lisp_heap.specs.LivingWords.{RefersTo, header_words}
 use Rattle.lisp_heap.specs.Plan.{IsPlan, Makes}
-use Rattle.lisp_heap.specs.LivingWords.{RefersToCons}
 use Rattle.lisp_heap.specs.declared.plan.Change.{Change}
 use Rattle.lisp_heap.specs.declared.plan.Change.TheVariants as changes
+use Rattle.lisp_heap.proofs.SlotChanges.{field_slot, field_set, raw_slot, raw_set}
 
--- the two fields of a cons
-abbrev pub field_of : {objects : List (Option Object)} {v : Value} {index : ℕ} → RefersToCons objects v index → ℕ → Value
-field_of k i = get_or (k.first ∷ k.second ∷ []) i zero_value
+-- what there is at a place of a list, and that there is none from its end on
+indexing_in : {A : Type 0} (xs : List A) (i : ℕ) (d : A) (a : NamedHeap) (go : A → Outcome) → i < length xs → indexing xs i d a go ≡ go (get_or xs i d)
+indexing_in xs i d a go h = ap (λ (b : Bool). if b then go (get_or xs i d) else refused OutOfRange a) (lt-ltb i (length xs) h)
 
-pub fields_are : (objects : List (Option Object)) (v : Value) (index : ℕ) (k : RefersToCons objects v index) →
-    fields_at objects v ≡ Some (k.first ∷ k.second ∷ [])
-fields_are objects v index k =
-    ap (fields_at objects) k.value_is ∙ ap (λ (o : Option Object). option_and_then fields_of (contents_of o)) k.there ∙ ap fields_of k.cons
-
--- what there is at a field below two, and that there is none from two on
-indexing_in : (xs : List Value) (i : ℕ) (a : NamedHeap) (go : Value → Outcome) → i < length xs → indexing xs i zero_value a go ≡ go (get_or xs i zero_value)
-indexing_in xs i a go h = ap (λ (b : Bool). if b then go (get_or xs i zero_value) else refused OutOfRange a) (lt-ltb i (length xs) h)
-
-indexing_out : (xs : List Value) (i : ℕ) (a : NamedHeap) (go : Value → Outcome) → length xs ≤ i → indexing xs i zero_value a go ≡ refused OutOfRange a
-indexing_out xs i a go h = ap (λ (b : Bool). if b then go (get_or xs i zero_value) else refused OutOfRange a) (le-ltb i (length xs) h)
-
--- what a command comes to that needs fields
-abbrev with_fields : NamedHeap → Value → ℕ → (Value → Outcome) → Outcome
-with_fields a v i go = needing (fields_at a.objects v) a (λ vs. indexing vs i zero_value a go)
-
-fields_none : (a : NamedHeap) (v : Value) (i : ℕ) (go : Value → Outcome) → fields_at a.objects v ≡ None → with_fields a v i go ≡ refused NotType a
-fields_none a v i go none = ap (λ (o : Option (List Value)). needing o a (λ vs. indexing vs i zero_value a go)) none
-
-fields_out : (a : NamedHeap) (v : Value) (i index : ℕ) (go : Value → Outcome) → RefersToCons a.objects v index → 2 ≤ i → with_fields a v i go ≡ refused OutOfRange a
-fields_out a v i index go k out =
-    ap (λ (o : Option (List Value)). needing o a (λ vs. indexing vs i zero_value a go)) (fields_are a.objects v index k)
-    ∙ indexing_out (k.first ∷ k.second ∷ []) i a go out
-
-fields_in : (a : NamedHeap) (v : Value) (i index : ℕ) (go : Value → Outcome) → (k : RefersToCons a.objects v index) → i < 2 → with_fields a v i go ≡ go (field_of k i)
-fields_in a v i index go k low =
-    ap (λ (o : Option (List Value)). needing o a (λ vs. indexing vs i zero_value a go)) (fields_are a.objects v index k)
-    ∙ indexing_in (k.first ∷ k.second ∷ []) i a go low
+indexing_out : {A : Type 0} (xs : List A) (i : ℕ) (d : A) (a : NamedHeap) (go : A → Outcome) → length xs ≤ i → indexing xs i d a go ≡ refused OutOfRange a
+indexing_out xs i d a go h = ap (λ (b : Bool). if b then go (get_or xs i d) else refused OutOfRange a) (le-ltb i (length xs) h)
 
 -- a plan is right by the outcome
 planned : (a : NamedHeap) (t : ℕ) (c : Command) (o : Outcome) (answer : Answer) (change : Change) → outcome_of a t c ≡ o → answer ≡ o.answer →
@@ -65,6 +47,8 @@ planned a t c o answer change is said makes = record {
   makes = subst (λ (x : Outcome). Makes a t x.heap change) (sym is) makes;
 }
 
+-- ---- cells
+
 pub fixed_is : (a : NamedHeap) (t : ℕ) (d : Cell) (n : ℤ) (word : ℕ) → IsCell d → word ≡ fixnum_word n →
     IsPlan a t (commands.Fix d n) answers.Done (changes.InCell d word)
 unfolding outcome_of
@@ -73,9 +57,55 @@ fixed_is a t d n word ok is = record {
   makes = record { value = values.Fix n; is_cell = ok; word_is = is; effect = refl };
 }
 
+pub nil_is : (a : NamedHeap) (t : ℕ) (d : Cell) → IsCell d → IsPlan a t (commands.MakeNil d) answers.Done (changes.InCell d nil_word)
+unfolding outcome_of
+nil_is a t d ok = record {
+  answers = refl;
+  makes = record { value = values.Nil; is_cell = ok; word_is = refl; effect = refl };
+}
+
+pub moved_is : (a : NamedHeap) (t : ℕ) (d c : Cell) (word : ℕ) → IsCell d → word ≡ word_of a.objects (cell_value a t c) →
+    IsPlan a t (commands.Move d c) answers.Done (changes.InCell d word)
+unfolding outcome_of
+moved_is a t d c word ok is = record {
+  answers = refl;
+  makes = record { value = cell_value a t c; is_cell = ok; word_is = is; effect = refl };
+}
+
+pub compared_is : (a : NamedHeap) (t : ℕ) (x y : Cell) (same : Bool) (answer : Answer) → same_value (cell_value a t x) (cell_value a t y) ≡ same →
+    answer ≡ (if same then answers.Yes else answers.No) → IsPlan a t (commands.Same x y) answer changes.Nothing
+unfolding outcome_of
+compared_is a t x y same answer is said = record {
+  answers = said ∙ ap (λ (b : Bool). if b then answers.Yes else answers.No) (sym is);
+  makes = refl;
+}
+
 pub shown_is : (a : NamedHeap) (t : ℕ) (c : Cell) (v : Value) → v ≡ cell_value a t c → IsPlan a t (commands.Show c) (answers.Val v) changes.Nothing
 unfolding outcome_of
 shown_is a t c v is = record { answers = ap (λ (x : Value). answers.Val x) is; makes = refl }
+
+-- ---- fields
+
+-- what a command comes to that needs fields
+abbrev with_fields : NamedHeap → Value → ℕ → (Value → Outcome) → Outcome
+with_fields a v i go = needing (fields_at a.objects v) a (λ vs. indexing vs i zero_value a go)
+
+fields_none : (a : NamedHeap) (v : Value) (i : ℕ) (go : Value → Outcome) → fields_at a.objects v ≡ None → with_fields a v i go ≡ refused NotType a
+fields_none a v i go none = ap (λ (o : Option (List Value)). needing o a (λ vs. indexing vs i zero_value a go)) none
+
+fields_out : (a : NamedHeap) (v : Value) (i : ℕ) (vs : List Value) (go : Value → Outcome) → fields_at a.objects v ≡ Some vs → length vs ≤ i → with_fields a v i go ≡ refused OutOfRange a
+fields_out a v i vs go are out =
+    ap (λ (o : Option (List Value)). needing o a (λ vs. indexing vs i zero_value a go)) are ∙ indexing_out vs i zero_value a go out
+
+fields_in : (a : NamedHeap) (v : Value) (i : ℕ) (vs : List Value) (go : Value → Outcome) → fields_at a.objects v ≡ Some vs → i < length vs → with_fields a v i go ≡ go (get_or vs i zero_value)
+fields_in a v i vs go are low =
+    ap (λ (o : Option (List Value)). needing o a (λ vs. indexing vs i zero_value a go)) are ∙ indexing_in vs i zero_value a go low
+
+-- the fields of the object to which a value refers
+pub fields_are : (objects : List (Option Object)) (v : Value) (o : Object) (vs : List Value) → RefersTo objects v o → fields_of o.contents ≡ Some vs →
+    fields_at objects v ≡ Some vs
+fields_are objects v o vs r are =
+    ap (fields_at objects) r.value_is ∙ ap (λ (z : Option Object). option_and_then fields_of (contents_of z)) r.there ∙ are
 
 -- a `get`
 get_outcome : (a : NamedHeap) (t : ℕ) (d c : Cell) (i : ℕ) → outcome_of a t (commands.Get d c i) ≡ with_fields a (cell_value a t c) i (λ v. answering (answers.Val v) (with_cell a t d v))
@@ -87,19 +117,20 @@ pub got_none : (a : NamedHeap) (t : ℕ) (d c : Cell) (i : ℕ) → fields_at a.
 got_none a t d c i none = planned a t (commands.Get d c i) (refused NotType a) (answers.Refused NotType) changes.Nothing
     (get_outcome a t d c i ∙ fields_none a (cell_value a t c) i (λ v. answering (answers.Val v) (with_cell a t d v)) none) refl refl
 
-pub got_out : (a : NamedHeap) (t : ℕ) (d c : Cell) (i index : ℕ) → RefersToCons a.objects (cell_value a t c) index → 2 ≤ i →
+pub got_out : (a : NamedHeap) (t : ℕ) (d c : Cell) (i : ℕ) (vs : List Value) → fields_at a.objects (cell_value a t c) ≡ Some vs → length vs ≤ i →
     IsPlan a t (commands.Get d c i) (answers.Refused OutOfRange) changes.Nothing
-got_out a t d c i index k out = planned a t (commands.Get d c i) (refused OutOfRange a) (answers.Refused OutOfRange) changes.Nothing
-    (get_outcome a t d c i ∙ fields_out a (cell_value a t c) i index (λ v. answering (answers.Val v) (with_cell a t d v)) k out) refl refl
+got_out a t d c i vs are out = planned a t (commands.Get d c i) (refused OutOfRange a) (answers.Refused OutOfRange) changes.Nothing
+    (get_outcome a t d c i ∙ fields_out a (cell_value a t c) i vs (λ v. answering (answers.Val v) (with_cell a t d v)) are out) refl refl
 
-pub got_is : (a : NamedHeap) (t : ℕ) (d c : Cell) (i index word : ℕ) (v : Value) → (k : RefersToCons a.objects (cell_value a t c) index) → i < 2 → IsCell d →
-    v ≡ field_of k i → word ≡ word_of a.objects (field_of k i) →
+pub got_is : (a : NamedHeap) (t : ℕ) (d c : Cell) (i word : ℕ) (v : Value) (vs : List Value) → fields_at a.objects (cell_value a t c) ≡ Some vs → i < length vs → IsCell d →
+    v ≡ get_or vs i zero_value → word ≡ word_of a.objects (get_or vs i zero_value) →
     IsPlan a t (commands.Get d c i) (answers.Val v) (changes.InCell d word)
-got_is a t d c i index word v k low ok is word_is =
-    planned a t (commands.Get d c i) (answering (answers.Val (field_of k i)) (with_cell a t d (field_of k i))) (answers.Val v) (changes.InCell d word)
-    (get_outcome a t d c i ∙ fields_in a (cell_value a t c) i index (λ v. answering (answers.Val v) (with_cell a t d v)) k low)
+got_is a t d c i word v vs are low ok is word_is =
+    let field = get_or vs i zero_value in
+    planned a t (commands.Get d c i) (answering (answers.Val field) (with_cell a t d field)) (answers.Val v) (changes.InCell d word)
+    (get_outcome a t d c i ∙ fields_in a (cell_value a t c) i vs (λ v. answering (answers.Val v) (with_cell a t d v)) are low)
     (ap (λ (x : Value). answers.Val x) is)
-    (record { value = field_of k i; is_cell = ok; word_is = word_is; effect = refl })
+    (record { value = field; is_cell = ok; word_is = word_is; effect = refl })
 
 -- a `put`
 abbrev put_at : NamedHeap → ℕ → Cell → ℕ → Cell → NamedHeap
@@ -114,31 +145,176 @@ pub put_none : (a : NamedHeap) (t : ℕ) (c : Cell) (i : ℕ) (b : Cell) → fie
 put_none a t c i b none = planned a t (commands.Put c i b) (refused NotType a) (answers.Refused NotType) changes.Nothing
     (put_outcome a t c i b ∙ fields_none a (cell_value a t c) i (λ _. done (put_at a t c i b)) none) refl refl
 
-pub put_out : (a : NamedHeap) (t : ℕ) (c : Cell) (i : ℕ) (b : Cell) (index : ℕ) → RefersToCons a.objects (cell_value a t c) index → 2 ≤ i →
+pub put_out : (a : NamedHeap) (t : ℕ) (c : Cell) (i : ℕ) (b : Cell) (vs : List Value) → fields_at a.objects (cell_value a t c) ≡ Some vs → length vs ≤ i →
     IsPlan a t (commands.Put c i b) (answers.Refused OutOfRange) changes.Nothing
-put_out a t c i b index k out = planned a t (commands.Put c i b) (refused OutOfRange a) (answers.Refused OutOfRange) changes.Nothing
-    (put_outcome a t c i b ∙ fields_out a (cell_value a t c) i index (λ _. done (put_at a t c i b)) k out) refl refl
+put_out a t c i b vs are out = planned a t (commands.Put c i b) (refused OutOfRange a) (answers.Refused OutOfRange) changes.Nothing
+    (put_outcome a t c i b ∙ fields_out a (cell_value a t c) i vs (λ _. done (put_at a t c i b)) are out) refl refl
 
-pub put_is : (a : NamedHeap) (t : ℕ) (c : Cell) (i : ℕ) (b : Cell) (index at word : ℕ) → (k : RefersToCons a.objects (cell_value a t c) index) → i < 2 →
-    at ≡ index + i → word ≡ word_of a.objects (cell_value a t b) →
-    IsPlan a t (commands.Put c i b) answers.Done (changes.InSpace at word)
-put_is a t c i b index at word k low at_is word_is =
-    planned a t (commands.Put c i b) (done (put_at a t c i b)) answers.Done (changes.InSpace at word)
-    (put_outcome a t c i b ∙ fields_in a (cell_value a t c) i index (λ _. done (put_at a t c i b)) k low) refl
+-- an object to which a value refers holds something else
+changed_heap : (a : NamedHeap) (v : Value) (o : Object) (change : Contents → Contents) → (r : RefersTo a.objects v o) →
+    record a { objects = changed_at a.objects v change } ≡ record a { objects = set a.objects r.name (Some (record o { contents = change o.contents })) }
+changed_heap a v o change r =
+    ap (λ (z : Value). record a { objects = changed_at a.objects z change }) r.value_is
+    ∙ ap (λ (z : Option Object). record a { objects = set a.objects r.name (refilled z change) }) r.there
+
+pub put_is : (a : NamedHeap) (t : ℕ) (c : Cell) (i : ℕ) (b : Cell) (index word : ℕ) (o : Object) (vs : List Value) → RefersTo a.objects (cell_value a t c) o →
+    fields_of o.contents ≡ Some vs → i < length vs → index ≡ o.place + (header_words (kind_of o.contents) + i) → word ≡ word_of a.objects (cell_value a t b) →
+    IsPlan a t (commands.Put c i b) answers.Done (changes.InSpace index word)
+put_is a t c i b index word o vs r are low at word_is =
+    let value = cell_value a t b in
+    planned a t (commands.Put c i b) (done (put_at a t c i b)) answers.Done (changes.InSpace index word)
+    (put_outcome a t c i b ∙ fields_in a (cell_value a t c) i vs (λ _. done (put_at a t c i b)) (fields_are a.objects (cell_value a t c) o vs r are) low) refl
     (record {
-      value = cell_value a t b;
-      name = k.name;
-      object = k.object;
-      first = k.first;
-      second = k.second;
-      i = i;
-      low = low;
-      there = k.there;
-      cons = k.cons;
-      at_index = at_is ∙ ap (λ (n : ℕ). n + i) k.place;
+      name = r.name;
+      object = o;
+      there = r.there;
+      contents = with_field o.contents i value;
+      kind = with_field-kind o.contents i value;
+      payload = with_field-payload o.contents i value;
+      i = header_words (kind_of o.contents) + i;
+      slot = Val value;
+      within = slice_get_within (slots o.contents) (header_words (kind_of o.contents) + i) (Val (get_or vs i zero_value)) (field_slot o.contents vs i are low);
+      slots_are = field_set o.contents vs i value are low;
+      at_index = at;
       word_is = word_is;
-      effect = ap (λ (v : Value). record a { objects = with_field_at a.objects v i (cell_value a t b) }) k.value_is;
+      effect = changed_heap a (cell_value a t c) o (λ k. with_field k i value) r;
     })
+
+-- ---- raw cells
+
+pub addressed_is : (a : NamedHeap) (t : ℕ) (r : Raw) (c : Cell) (word : ℕ) → IsRaw r → word ≡ word_of a.objects (cell_value a t c) →
+    IsPlan a t (commands.Addr r c) (answers.Word word) (changes.InRaw r word)
+unfolding outcome_of
+addressed_is a t r c word ok is = record {
+  answers = ap (λ (x : ℕ). answers.Word x) is;
+  makes = record { is_raw = ok; effect = ap (with_raw a t r) (sym is) };
+}
+
+pub set_is : (a : NamedHeap) (t : ℕ) (r : Raw) (word : ℕ) → IsRaw r → IsPlan a t (commands.SetRaw r word) answers.Done (changes.InRaw r word)
+unfolding outcome_of
+set_is a t r word ok = record { answers = refl; makes = record { is_raw = ok; effect = refl } }
+
+pub added_is : (a : NamedHeap) (t : ℕ) (r : Raw) (k : ℤ) (word : ℕ) → IsRaw r → word ≡ word_plus (raw_value a t r) k →
+    IsPlan a t (commands.AddRaw r k) (answers.Word word) (changes.InRaw r word)
+unfolding outcome_of
+added_is a t r k word ok is = record {
+  answers = ap (λ (x : ℕ). answers.Word x) is;
+  makes = record { is_raw = ok; effect = ap (with_raw a t r) (sym is) };
+}
+
+-- ---- raw words
+
+-- what a command comes to that needs raw words
+abbrev with_words : NamedHeap → Value → ℕ → (List ℕ → ℕ → Outcome) → Outcome
+with_words a v i go = needing (raws_at a.objects v) a (λ ws. indexing ws i 0 a (go ws))
+
+words_none : (a : NamedHeap) (v : Value) (i : ℕ) (go : List ℕ → ℕ → Outcome) → raws_at a.objects v ≡ None → with_words a v i go ≡ refused NotType a
+words_none a v i go none = ap (λ (o : Option (List ℕ)). needing o a (λ ws. indexing ws i 0 a (go ws))) none
+
+words_out : (a : NamedHeap) (v : Value) (i : ℕ) (ws : List ℕ) (go : List ℕ → ℕ → Outcome) → raws_at a.objects v ≡ Some ws → length ws ≤ i → with_words a v i go ≡ refused OutOfRange a
+words_out a v i ws go are out =
+    ap (λ (o : Option (List ℕ)). needing o a (λ ws. indexing ws i 0 a (go ws))) are ∙ indexing_out ws i 0 a (go ws) out
+
+words_in : (a : NamedHeap) (v : Value) (i : ℕ) (ws : List ℕ) (go : List ℕ → ℕ → Outcome) → raws_at a.objects v ≡ Some ws → i < length ws → with_words a v i go ≡ go ws (get_or ws i 0)
+words_in a v i ws go are low =
+    ap (λ (o : Option (List ℕ)). needing o a (λ ws. indexing ws i 0 a (go ws))) are ∙ indexing_in ws i 0 a (go ws) low
+
+-- the raw words of the object to which a value refers
+pub raws_are : (objects : List (Option Object)) (v : Value) (o : Object) (ws : List ℕ) → RefersTo objects v o → raws_of o.contents ≡ Some ws →
+    raws_at objects v ≡ Some ws
+raws_are objects v o ws r are =
+    ap (raws_at objects) r.value_is ∙ ap (λ (z : Option Object). option_and_then raws_of (contents_of z)) r.there ∙ are
+
+-- a `rawget`
+rawget_outcome : (a : NamedHeap) (t : ℕ) (r : Raw) (c : Cell) (i : ℕ) → outcome_of a t (commands.RawGet r c i) ≡ with_words a (cell_value a t c) i (λ ws word. taking a t r word)
+unfolding outcome_of
+rawget_outcome a t r c i = refl
+
+pub raw_got_none : (a : NamedHeap) (t : ℕ) (r : Raw) (c : Cell) (i : ℕ) → raws_at a.objects (cell_value a t c) ≡ None →
+    IsPlan a t (commands.RawGet r c i) (answers.Refused NotType) changes.Nothing
+raw_got_none a t r c i none = planned a t (commands.RawGet r c i) (refused NotType a) (answers.Refused NotType) changes.Nothing
+    (rawget_outcome a t r c i ∙ words_none a (cell_value a t c) i (λ ws word. taking a t r word) none) refl refl
+
+pub raw_got_out : (a : NamedHeap) (t : ℕ) (r : Raw) (c : Cell) (i : ℕ) (ws : List ℕ) → raws_at a.objects (cell_value a t c) ≡ Some ws → length ws ≤ i →
+    IsPlan a t (commands.RawGet r c i) (answers.Refused OutOfRange) changes.Nothing
+raw_got_out a t r c i ws are out = planned a t (commands.RawGet r c i) (refused OutOfRange a) (answers.Refused OutOfRange) changes.Nothing
+    (rawget_outcome a t r c i ∙ words_out a (cell_value a t c) i ws (λ ws word. taking a t r word) are out) refl refl
+
+pub raw_got_is : (a : NamedHeap) (t : ℕ) (r : Raw) (c : Cell) (i word : ℕ) (ws : List ℕ) → raws_at a.objects (cell_value a t c) ≡ Some ws → i < length ws → IsRaw r →
+    word ≡ get_or ws i 0 → IsPlan a t (commands.RawGet r c i) (answers.Word word) (changes.InRaw r word)
+raw_got_is a t r c i word ws are low ok is =
+    planned a t (commands.RawGet r c i) (taking a t r word) (answers.Word word) (changes.InRaw r word)
+    (rawget_outcome a t r c i ∙ words_in a (cell_value a t c) i ws (λ ws word. taking a t r word) are low ∙ ap (taking a t r) (sym is)) refl
+    (record { is_raw = ok; effect = refl })
+
+-- a `rawput`
+abbrev rawput_at : NamedHeap → ℕ → Cell → ℕ → Raw → List ℕ → NamedHeap
+rawput_at a t c i r ws = record a { objects = changed_at a.objects (cell_value a t c) (λ k. with_raws k (set ws i (raw_value a t r))) }
+
+rawput_outcome : (a : NamedHeap) (t : ℕ) (c : Cell) (i : ℕ) (r : Raw) → outcome_of a t (commands.RawPut c i r) ≡ with_words a (cell_value a t c) i (λ ws _. done (rawput_at a t c i r ws))
+unfolding outcome_of
+rawput_outcome a t c i r = refl
+
+pub raw_put_none : (a : NamedHeap) (t : ℕ) (c : Cell) (i : ℕ) (r : Raw) → raws_at a.objects (cell_value a t c) ≡ None →
+    IsPlan a t (commands.RawPut c i r) (answers.Refused NotType) changes.Nothing
+raw_put_none a t c i r none = planned a t (commands.RawPut c i r) (refused NotType a) (answers.Refused NotType) changes.Nothing
+    (rawput_outcome a t c i r ∙ words_none a (cell_value a t c) i (λ ws _. done (rawput_at a t c i r ws)) none) refl refl
+
+pub raw_put_out : (a : NamedHeap) (t : ℕ) (c : Cell) (i : ℕ) (r : Raw) (ws : List ℕ) → raws_at a.objects (cell_value a t c) ≡ Some ws → length ws ≤ i →
+    IsPlan a t (commands.RawPut c i r) (answers.Refused OutOfRange) changes.Nothing
+raw_put_out a t c i r ws are out = planned a t (commands.RawPut c i r) (refused OutOfRange a) (answers.Refused OutOfRange) changes.Nothing
+    (rawput_outcome a t c i r ∙ words_out a (cell_value a t c) i ws (λ ws _. done (rawput_at a t c i r ws)) are out) refl refl
+
+pub raw_put_is : (a : NamedHeap) (t : ℕ) (c : Cell) (i : ℕ) (r : Raw) (index word : ℕ) (o : Object) (ws : List ℕ) → RefersTo a.objects (cell_value a t c) o →
+    o.contents ≡ WordsOf ws → i < length ws → index ≡ o.place + (1 + i) → word ≡ raw_value a t r →
+    IsPlan a t (commands.RawPut c i r) answers.Done (changes.InSpace index word)
+raw_put_is a t c i r index word o ws refers is low at word_is =
+    let new = set ws i (raw_value a t r) in
+    let are : raws_of o.contents ≡ Some ws = ap raws_of is in
+    planned a t (commands.RawPut c i r) (done (rawput_at a t c i r ws)) answers.Done (changes.InSpace index word)
+    (rawput_outcome a t c i r ∙ words_in a (cell_value a t c) i ws (λ ws _. done (rawput_at a t c i r ws)) (raws_are a.objects (cell_value a t c) o ws refers are) low) refl
+    (record {
+      name = refers.name;
+      object = o;
+      there = refers.there;
+      contents = WordsOf new;
+      kind = ap (λ (k : Contents). kind_of k) (sym is);
+      payload = length-set ws i (raw_value a t r) ∙ ap (λ (k : Contents). payload_of k) (sym is);
+      i = 1 + i;
+      slot = RawSlot (raw_value a t r);
+      within = subst (λ (k : Contents). 1 + i < length (slots k)) (sym is) (slice_get_within (slots (WordsOf ws)) (1 + i) (RawSlot (get_or ws i 0)) (raw_slot ws i low));
+      slots_are = raw_set ws i (raw_value a t r) low ∙ ap (λ (k : Contents). set (slots k) (1 + i) (RawSlot (raw_value a t r))) (sym is);
+      at_index = at;
+      word_is = word_is;
+      effect = changed_heap a (cell_value a t c) o (λ k. with_raws k new) refers
+          ∙ ap (λ (k : Contents). record a { objects = set a.objects refers.name (Some (record o { contents = with_raws k new })) }) is;
+    })
+
+-- ---- inhibit counts
+
+pub inhibited_is : (a : NamedHeap) (t count : ℕ) → count ≡ (thread_at a t).inhibits → IsPlan a t commands.Inhibit answers.Done (changes.Inhibits (count + 1))
+unfolding outcome_of
+inhibited_is a t count is = record {
+  answers = refl;
+  makes = ap (λ (n : ℕ). with_thread a t (record (thread_at a t) { inhibits = n + 1 })) (sym is);
+}
+
+-- what `gcok` comes to, by whether the count is 0
+abbrev allow_by : NamedHeap → ℕ → Bool → Outcome
+allow_by a t none = if none then refused Nothing a else done (with_thread a t (record (thread_at a t) { inhibits = (thread_at a t).inhibits - 1 }))
+
+pub allowed_none : (a : NamedHeap) (t : ℕ) → (thread_at a t).inhibits ≡ 0 → IsPlan a t commands.Allow (answers.Refused Nothing) changes.Nothing
+unfolding outcome_of
+allowed_none a t none =
+    let test : eqb (thread_at a t).inhibits 0 ≡ true = eq-eqb (thread_at a t).inhibits 0 none in
+    planned a t commands.Allow (refused Nothing a) (answers.Refused Nothing) changes.Nothing (ap (allow_by a t) test) refl refl
+
+pub allowed_is : (a : NamedHeap) (t count : ℕ) → count ≡ (thread_at a t).inhibits → (count ≡ 0 → ⊥) → IsPlan a t commands.Allow answers.Done (changes.Inhibits (count - 1))
+unfolding outcome_of
+allowed_is a t count is some =
+    let other : eqb (thread_at a t).inhibits 0 ≡ false = ne_eqb (thread_at a t).inhibits 0 (λ e. some (is ∙ e)) in
+    planned a t commands.Allow (done (with_thread a t (record (thread_at a t) { inhibits = (thread_at a t).inhibits - 1 }))) answers.Done (changes.Inhibits (count - 1))
+    (ap (allow_by a t) other) refl (ap (λ (n : ℕ). with_thread a t (record (thread_at a t) { inhibits = n - 1 })) (sym is))
 
 -- a fixnum is a signed number of 64 bits
 pub fixnum_fits : (n : ℤ) → IsFixnum n → FitsSigned w64 n

@@ -1,21 +1,25 @@
--- A `put` into a cons: its word is written, and the words stand for the heap with the field changed.
-use Rattle.std.proofs.Common.{◌≡◌, ◌≢◌, ℕ, zero, suc, ◌+◌, ◌*◌, ◌<◌, ◌≤◌, List, length, refl, sym, ◌∙◌, subst, ap, arith, set, length-set, get_or-set_same, get_or-set_other, inl, inr, Option, Some, None, ◌⊎◌}
+-- One slot of an object becomes another: its word is written, and the words stand for the heap with the object changed.
+use Rattle.std.proofs.Common.{◌≡◌, ◌≢◌, ℕ, ◌+◌, ◌*◌, ◌/◌, ◌<◌, ◌≤◌, List, length, refl, sym, ◌∙◌, subst, ap, arith, set, length-set, get_or-set_same, get_or-set_other, inl, inr, Option, Some, None, ◌⊎◌}
 use Rattle.std.proofs.lemmas.Bool.{cases_eq}
-use Rattle.std.specs.Prelude.{slice_index}
+use Rattle.std.proofs.lemmas.Option.{slice_get_within}
+use Rattle.std.specs.Prelude.{slice_index, slice_get, IfSome}
 use Rattle.heap_terms.specs.declared.cells.Value.{Value}
-use Rattle.heap_terms.specs.declared.cells.Value.TheVariants.{Ref}
 use Rattle.heap_terms.specs.declared.programs.Program.{Program}
 use Rattle.heap_terms.specs.Heap.{NamedHeap, object_at, entry_at, fill_of}
-use Rattle.heap_terms.specs.Layout.{page_words, filler_word}
+use Rattle.heap_terms.specs.Layout.{page_words, filler_word, size_of}
 use Rattle.heap_terms.specs.OnPages.{BelongsTo}
-use Rattle.heap_terms.specs.Objects.{Object, Contents, ConsOf, words_of_object}
-use Rattle.heap_terms.specs.Referents.{with_field_at, with_field}
-use Rattle.heap_terms.specs.Stands.{WordsStand, SlotsStand, KeptStand}
+use Rattle.heap_terms.specs.Objects.{Object, Contents, kind_of, payload_of, words_of_object}
+use Rattle.heap_terms.specs.Slots.{Slot, Raw, Val, Side, Kept, slots, slot_at}
+use Rattle.heap_terms.specs.Sound.{IsSound}
+use Rattle.heap_terms.specs.Stands.{WordsStand, StandsFor, SlotsStand, KeptStand}
 use Rattle.heap_terms.specs.WellFormed.{IsWellFormed, AreApart, IsPlaced, IsOwned}
 use Rattle.heap_terms.specs.Spelling.{word_of}
-use Rattle.heap_laws.proofs.AtPlaces.{IfSome-from, IsSome-from}
-use Rattle.lisp_heap.proofs.ObjectLemmas.{object_with_field, word_of-with_field_at, name_below}
-use Rattle.lisp_heap.proofs.WordLemmas.{AreConses, cons_words, cons_at, cons_spelled, nothing_kept, outside}
+use Rattle.heap_laws.specs.WordLaws.{word_of_slot}
+use Rattle.heap_laws.proofs.AtPlaces.{IfSome-at, IfSome-from, IsSome-from}
+use Rattle.heap_laws.proofs.Reading.{slots-length}
+use Rattle.lisp_heap.specs.Standing.{LabelsStand}
+use Rattle.lisp_heap.proofs.ObjectLemmas.{word_of-replaced, name_below}
+use Rattle.lisp_heap.proofs.SlotChanges.{slot_cases, stands_for, within_capacity}
 
 -- two objects of a well-formed heap share no word
 pub apart_at : (p : Program) (a : NamedHeap) (x y : ℕ) (o q : Object) → IsWellFormed p a → x ≢ y → object_at a.objects x ≡ Some o →
@@ -26,94 +30,104 @@ apart_at p a x y o q wf n hx hy = wf.sound.apart x y o q n hx hy
 pub placed_at : (p : Program) (a : NamedHeap) (x : ℕ) (o : Object) → IsWellFormed p a → object_at a.objects x ≡ Some o → IsPlaced a.pages o
 placed_at p a x o wf h = (wf.sound.objects x o h).placed
 
-module _ (p : Program) (a : NamedHeap) (words : List ℕ) (x i : ℕ) (o : Object) (P Q w : Value)
-    (wf : IsWellFormed p a) (conses : AreConses a.objects) (s : WordsStand a words)
-    (there : object_at a.objects x ≡ Some o) (is : o.contents ≡ ConsOf P Q) (low : i < 2) where
-  abbrev at_word : ℕ
-  at_word = o.place + i
+-- an object of a sound heap has a slot for each of its words
+pub slots_count : (a : NamedHeap) (x : ℕ) (o : Object) → IsSound a → object_at a.objects x ≡ Some o → length (slots o.contents) ≡ words_of_object o
+slots_count a x o w h = slots-length o.contents (within_capacity o.contents (w.objects x o h).shape)
 
+module _ (a : NamedHeap) (words : List ℕ) (x i : ℕ) (o : Object) (k : Contents) (slot : Slot) (word : ℕ)
+    (w : IsSound a) (s : WordsStand a words) (there : object_at a.objects x ≡ Some o)
+    (kind : kind_of k ≡ kind_of o.contents) (payload : payload_of k ≡ payload_of o.contents)
+    (within : i < length (slots o.contents)) (are : slots k ≡ set (slots o.contents) i slot) (is : word ≡ word_of_slot a.objects slot) where
   -- the object after the change
   abbrev changed : Object
-  changed = record o { contents = with_field (ConsOf P Q) i w }
-
-  now_there : object_at (with_field_at a.objects (Ref x) i w) x ≡ Some changed
-  now_there =
-      get_or-set_same a.objects x (object_with_field (object_at a.objects x) i w) None (name_below a.objects x (IsSome-from (object_at a.objects x) o there))
-      ∙ ap (λ (k : Option Object). object_with_field k i w) there
-      ∙ ap (λ (k : Contents). Some (record o { contents = with_field k i w })) is
+  changed = record o { contents = k }
 
   abbrev new_objects : List (Option Object)
-  new_objects = with_field_at a.objects (Ref x) i w
+  new_objects = set a.objects x (Some changed)
 
   abbrev new_words : List ℕ
-  new_words = set words at_word (word_of a.objects w)
+  new_words = set words (o.place + i) word
+
+  now_there : object_at new_objects x ≡ Some changed
+  now_there = get_or-set_same a.objects x (Some changed) None (name_below a.objects x (IsSome-from (object_at a.objects x) o there))
+
+  same_size : words_of_object changed ≡ words_of_object o
+  same_size = ap (λ (n : ℕ). size_of (kind_of k) n) payload ∙ ap (λ (z : _). size_of z (payload_of o.contents)) kind
+
+  pub values_stay : (v : Value) → word_of new_objects v ≡ word_of a.objects v
+  values_stay v = word_of-replaced a.objects x o k v there kind
+
+  stays : (t : Slot) (n : ℕ) → StandsFor a.objects t n → StandsFor new_objects t n
+  stays (Raw r) n h = h
+  stays (Val v) n h = h ∙ sym (values_stay v)
+  stays (Side v) n h = h ∙ sym (values_stay v)
+  stays Kept n h = tt
+
+  inside : o.place + i < length words
+  inside = omega (arith, within, slots_count a x o w there, (w.objects x o there).placed.inside, s.long)
+
+  -- a word at another index is as it was
+  untouched : (index : ℕ) → index ≢ o.place + i → slice_index new_words index ≡ slice_index words index
+  untouched index n = get_or-set_other words (o.place + i) index word 0 n
+
+  old_slot : (name : ℕ) (q : Object) → object_at a.objects name ≡ Some q → (j : ℕ) (t : Slot) → slot_at q.contents j ≡ Some t →
+      StandsFor a.objects t (slice_index words (q.place + j))
+  old_slot name q h j t e =
+      let spelled : SlotsStand a.objects words q.place q.contents =
+      IfSome-at (λ (z : Object). SlotsStand a.objects words z.place z.contents) (object_at a.objects name) q h (s.spelled name) in
+      IfSome-at (λ (z : Slot). StandsFor a.objects z (slice_index words (q.place + j))) (slot_at q.contents j) t e (spelled j)
+
+  old_kept : (name : ℕ) (q : Object) → object_at a.objects name ≡ Some q → KeptStand words q.place q.contents
+  old_kept name q h = IfSome-at (λ (z : Object). KeptStand words z.place z.contents) (object_at a.objects name) q h (s.kept name)
 
   -- the object itself
-  own_words : SlotsStand new_objects new_words o.place changed.contents
-  own_words =
-      let placed = placed_at p a x o wf there in
-      let two : words_of_object o ≡ 2 = cons_words o P Q is in
-      let room : o.place + 2 ≤ length words = omega (arith, s.long, placed.inside) in
-      let old = cons_at a words x o P Q s there is in
-      own i low refl room old.0 old.1
-    where
-      own : (j : ℕ) → j < 2 → j ≡ i → o.place + 2 ≤ length words → slice_index words o.place ≡ word_of a.objects P →
-          slice_index words (o.place + 1) ≡ word_of a.objects Q → SlotsStand new_objects new_words o.place (with_field (ConsOf P Q) i w)
-      own zero l same room first second =
-          let here : o.place + i ≡ o.place = omega arith in
-          let written : slice_index new_words o.place ≡ word_of a.objects w =
-          subst (λ (k : ℕ). slice_index (set words k (word_of a.objects w)) o.place ≡ word_of a.objects w) (sym here)
-          (get_or-set_same words o.place (word_of a.objects w) 0 (omega arith)) in
-          let other : o.place + 1 ≢ at_word = λ e. omega arith in
-          let kept : slice_index new_words (o.place + 1) ≡ word_of a.objects Q =
-          get_or-set_other words at_word (o.place + 1) (word_of a.objects w) 0 other ∙ second in
-          subst (λ (k : ℕ). SlotsStand new_objects new_words o.place (with_field (ConsOf P Q) k w)) same
-          (cons_spelled new_objects new_words (record o { contents = ConsOf w Q }) w Q refl
-          (written ∙ sym (word_of-with_field_at a.objects (Ref x) i w w)) (kept ∙ sym (word_of-with_field_at a.objects (Ref x) i w Q)))
-      own (suc zero) l same room first second =
-          let here : o.place + i ≡ o.place + 1 = omega arith in
-          let written : slice_index new_words (o.place + 1) ≡ word_of a.objects w =
-          subst (λ (k : ℕ). slice_index (set words k (word_of a.objects w)) (o.place + 1) ≡ word_of a.objects w) (sym here)
-          (get_or-set_same words (o.place + 1) (word_of a.objects w) 0 (omega arith)) in
-          let other : o.place ≢ at_word = λ e. omega arith in
-          let kept : slice_index new_words o.place ≡ word_of a.objects P =
-          get_or-set_other words at_word o.place (word_of a.objects w) 0 other ∙ first in
-          subst (λ (k : ℕ). SlotsStand new_objects new_words o.place (with_field (ConsOf P Q) k w)) same
-          (cons_spelled new_objects new_words (record o { contents = ConsOf P w }) P w refl
-          (kept ∙ sym (word_of-with_field_at a.objects (Ref x) i w P)) (written ∙ sym (word_of-with_field_at a.objects (Ref x) i w w)))
-      own (suc (suc j)) l same room first second = absurd (omega arith)
+  own_slots : SlotsStand new_objects new_words o.place k
+  own_slots j = IfSome-from (λ (z : Slot). StandsFor new_objects z (slice_index new_words (o.place + j))) (slot_at k j) (λ t e.
+      let at : slice_get (set (slots o.contents) i slot) j ≡ Some t = ap (λ (ss : List Slot). slice_get ss j) (sym are) ∙ e in
+      stays t (slice_index new_words (o.place + j)) (elim (slot_cases (slots o.contents) i j slot t at) [
+        | inl here ↦ (
+            let written : slice_index new_words (o.place + j) ≡ word = ap (λ (n : ℕ). slice_index new_words (o.place + n)) here.0 ∙ get_or-set_same words (o.place + i) word 0 inside in
+            stands_for a.objects t (slice_index new_words (o.place + j)) (written ∙ is ∙ ap (word_of_slot a.objects) (sym here.1)))
+        | inr other ↦ (
+            let apart : o.place + j ≢ o.place + i = λ h. other.0 (omega (arith, h)) in
+            subst (λ (n : ℕ). StandsFor a.objects t n) (sym (untouched (o.place + j) apart)) (old_slot x o there j t other.1))
+      ]))
 
-  -- every other object
-  others_words : (name : ℕ) (q : Object) → name ≢ x → object_at a.objects name ≡ Some q → SlotsStand new_objects new_words q.place q.contents
-  others_words name q n h =
-      let parts = conses name q h in
-      let two : words_of_object o ≡ 2 = cons_words o P Q is in
-      let two_here : words_of_object q ≡ 2 = cons_words q (parts.0) (parts.1) (parts.2) in
-      let not_same : x ≢ name = λ e. n (sym e) in
-      let beside : (at_word < q.place) ⊎ (q.place + 2 ≤ at_word) =
-      elim (apart_at p a x name o q wf not_same there h) [ inl l ↦ inl (omega arith) | inr r ↦ inr (omega arith) ] in
-      let kept = outside words q.place at_word (word_of a.objects w) beside in
-      let old = cons_at a words name q (parts.0) (parts.1) s h (parts.2) in
-      cons_spelled new_objects new_words q (parts.0) (parts.1) (parts.2)
-      (kept.0 ∙ old.0 ∙ sym (word_of-with_field_at a.objects (Ref x) i w (parts.0)))
-      (kept.1 ∙ old.1 ∙ sym (word_of-with_field_at a.objects (Ref x) i w (parts.1)))
+  own_kept : KeptStand new_words o.place k
+  own_kept j e =
+      let at : slice_get (set (slots o.contents) i slot) j ≡ Some Kept = ap (λ (ss : List Slot). slice_get ss j) (sym are) ∙ e in
+      elim (slot_cases (slots o.contents) i j slot Kept at) [
+        | inl here ↦ (ap (λ (n : ℕ). slice_index new_words (o.place + n)) here.0 ∙ get_or-set_same words (o.place + i) word 0 inside ∙ is ∙ ap (word_of_slot a.objects) (sym here.1))
+        | inr other ↦ (
+            let apart : o.place + j ≢ o.place + i = λ h. other.0 (omega (arith, h)) in
+            untouched (o.place + j) apart ∙ old_kept x o there j other.1)
+      ]
 
-  -- look-up keeps none of the words
-  none_kept : (name : ℕ) (q : Object) → object_at new_objects name ≡ Some q → KeptStand new_words q.place q.contents
-  none_kept name q h = elim (cases_eq name x) [
+  -- no word of another object is written
+  beside : (name : ℕ) (q : Object) → name ≢ x → object_at a.objects name ≡ Some q → (j : ℕ) (t : Slot) → slot_at q.contents j ≡ Some t → q.place + j ≢ o.place + i
+  beside name q n h j t e same =
+      let here : j < words_of_object q = omega (arith, slice_get_within (slots q.contents) j t e, slots_count a name q w h) in
+      let own : i < words_of_object o = omega (arith, within, slots_count a x o w there) in
+      elim (w.apart x name o q (λ z. n (sym z)) there h) [ inl l ↦ omega (arith, l, here, own, same) | inr r ↦ omega (arith, r, here, own, same) ]
+
+  others_slots : (name : ℕ) (q : Object) → name ≢ x → object_at a.objects name ≡ Some q → SlotsStand new_objects new_words q.place q.contents
+  others_slots name q n h j = IfSome-from (λ (z : Slot). StandsFor new_objects z (slice_index new_words (q.place + j))) (slot_at q.contents j) (λ t e.
+      stays t (slice_index new_words (q.place + j))
+      (subst (λ (m : ℕ). StandsFor a.objects t m) (sym (untouched (q.place + j) (beside name q n h j t e))) (old_slot name q h j t e)))
+
+  others_kept : (name : ℕ) (q : Object) → name ≢ x → object_at a.objects name ≡ Some q → KeptStand new_words q.place q.contents
+  others_kept name q n h j e = untouched (q.place + j) (beside name q n h j Kept e) ∙ old_kept name q h j e
+
+  -- what is known of each object that is there after the change
+  by_name : (P : Object → Type 0) → P changed → ((name : ℕ) (q : Object) → name ≢ x → object_at a.objects name ≡ Some q → P q) →
+      (name : ℕ) → IfSome (object_at new_objects name) P
+  by_name P own other name = IfSome-from P (object_at new_objects name) (λ q h. elim (cases_eq name x) [
     | inl e ↦ (
         let found : Some q ≡ Some changed = sym h ∙ ap (object_at new_objects) e ∙ now_there in
         let same : q ≡ changed = cc in
-        subst (λ (k : Object). KeptStand new_words k.place k.contents) (sym same) (own i))
-    | inr n ↦ (
-        let parts = conses name q (sym (get_or-set_other a.objects x name (object_with_field (object_at a.objects x) i w) None n) ∙ h) in
-        nothing_kept new_words q.place q.contents (parts.0) (parts.1) (parts.2))
-  ]
-    where
-      own : (j : ℕ) → KeptStand new_words o.place (with_field (ConsOf P Q) j w)
-      own zero = nothing_kept new_words o.place (ConsOf w Q) w Q refl
-      own (suc zero) = nothing_kept new_words o.place (ConsOf P w) P w refl
-      own (suc (suc j)) = nothing_kept new_words o.place (ConsOf P Q) P Q refl
+        subst P (sym same) own)
+    | inr n ↦ other name q n (sym (get_or-set_other a.objects x name (Some changed) None n) ∙ h)
+  ])
 
   -- a word that belonged to an object belongs to it still
   owned_still : (index : ℕ) → IsOwned a.objects index → IsOwned new_objects index
@@ -121,39 +135,42 @@ module _ (p : Program) (a : NamedHeap) (words : List ℕ) (x i : ℕ) (o : Objec
     | inl e ↦ (
         let here : Some o ≡ Some h.1 = sym there ∙ ap (object_at a.objects) (sym e) ∙ h.2 in
         let same : o ≡ h.1 = cc in
-        let own : BelongsTo index o = subst (λ (k : Object). BelongsTo index k) (sym same) h.3 in
-        let two : words_of_object o ≡ 2 = cons_words o P Q is in
-        let two_now : words_of_object changed ≡ 2 = two_of i in
-        (x, changed, now_there, record { from = own.from; below = omega (arith, own.below, two, two_now) }))
-    | inr n ↦ (h.0, h.1, get_or-set_other a.objects x h.0 (object_with_field (object_at a.objects x) i w) None n ∙ h.2, h.3)
+        let own : BelongsTo index o = subst (λ (z : Object). BelongsTo index z) (sym same) h.3 in
+        (x, changed, now_there, record { from = own.from; below = omega (arith, own.below, same_size) }))
+    | inr n ↦ (h.0, h.1, get_or-set_other a.objects x h.0 (Some changed) None n ∙ h.2, h.3)
   ]
-    where
-      two_of : (j : ℕ) → words_of_object (record o { contents = with_field (ConsOf P Q) j w }) ≡ 2
-      two_of zero = refl
-      two_of (suc zero) = refl
-      two_of (suc (suc j)) = refl
 
   -- the word that was written belongs to the object, so that fillers are as they were
-  fillers_kept : (page k : ℕ) → k < fill_of (entry_at a.pages page) → ¬ IsOwned new_objects (page_words * page + k) →
-      slice_index new_words (page_words * page + k) ≡ filler_word
-  fillers_kept page k l none =
-      let two : words_of_object o ≡ 2 = cons_words o P Q is in
-      let elsewhere : page_words * page + k ≢ at_word = λ e. none (owned_still (page_words * page + k)
-      (x, o, there, record { from = omega (arith, e); below = omega (arith, e, two, low) })) in
-      get_or-set_other words at_word (page_words * page + k) (word_of a.objects w) 0 elsewhere
-      ∙ s.fillers page k l (λ owned. none (owned_still (page_words * page + k) owned))
+  fillers_kept : (page j : ℕ) → j < fill_of (entry_at a.pages page) → ¬ IsOwned new_objects (page_words * page + j) →
+      slice_index new_words (page_words * page + j) ≡ filler_word
+  fillers_kept page j l none =
+      let own : i < words_of_object o = omega (arith, within, slots_count a x o w there) in
+      let elsewhere : page_words * page + j ≢ o.place + i = λ e. none (owned_still (page_words * page + j)
+      (x, o, there, record { from = omega (arith, e); below = omega (arith, e, own) })) in
+      untouched (page_words * page + j) elsewhere ∙ s.fillers page j l (λ owned. none (owned_still (page_words * page + j) owned))
 
-  pub WordsStand-put : WordsStand (record a { objects = new_objects }) new_words
-  WordsStand-put = record {
-    long = length-set words at_word (word_of a.objects w) ∙ s.long;
-    spelled = λ name. IfSome-from (λ (q : Object). SlotsStand new_objects new_words q.place q.contents) (object_at new_objects name) (λ q h.
-        elim (cases_eq name x) [
-          | inl e ↦ (
-              let found : Some q ≡ Some changed = sym h ∙ ap (object_at new_objects) e ∙ now_there in
-              let same : q ≡ changed = cc in
-              subst (λ (k : Object). SlotsStand new_objects new_words k.place k.contents) (sym same) own_words)
-          | inr n ↦ others_words name q n (sym (get_or-set_other a.objects x name (object_with_field (object_at a.objects x) i w) None n) ∙ h)
-        ]);
-    kept = λ name. IfSome-from (λ (q : Object). KeptStand new_words q.place q.contents) (object_at new_objects name) (none_kept name);
-    fillers = λ page k l none. fillers_kept page k l none;
+  pub WordsStand-slot : WordsStand (record a { objects = new_objects }) new_words
+  WordsStand-slot = record {
+    long = length-set words (o.place + i) word ∙ s.long;
+    spelled = by_name (λ (q : Object). SlotsStand new_objects new_words q.place q.contents) own_slots others_slots;
+    kept = by_name (λ (q : Object). KeptStand new_words q.place q.contents) own_kept others_kept;
+    fillers = fillers_kept;
   }
+
+  pub LabelsStand-slot : (labels : List ℕ) → LabelsStand a labels → LabelsStand (record a { objects = new_objects }) labels
+  LabelsStand-slot labels l = record {
+    long = l.long;
+    named = λ name. named_at labels l name;
+  }
+    where
+      old_label : (labels : List ℕ) → LabelsStand a labels → (name : ℕ) (q : Object) → object_at a.objects name ≡ Some q → slice_index labels (q.place / 2) ≡ name
+      old_label labels l name q h = IfSome-at (λ (z : Object). slice_index labels (z.place / 2) ≡ name) (object_at a.objects name) q h (l.named name)
+
+      named_at : (labels : List ℕ) → LabelsStand a labels → (name : ℕ) → IfSome (object_at new_objects name) (λ q. slice_index labels (q.place / 2) ≡ name)
+      named_at labels l name = IfSome-from (λ (z : Object). slice_index labels (z.place / 2) ≡ name) (object_at new_objects name) (λ q h. elim (cases_eq name x) [
+        | inl e ↦ (
+            let found : Some q ≡ Some changed = sym h ∙ ap (object_at new_objects) e ∙ now_there in
+            let same : q ≡ changed = cc in
+            ap (λ (z : Object). slice_index labels (z.place / 2)) same ∙ old_label labels l x o there ∙ sym e)
+        | inr n ↦ old_label labels l name q (sym (get_or-set_other a.objects x name (Some changed) None n) ∙ h)
+      ])

@@ -93,7 +93,7 @@ module _ (s : Inside) (h : IsSound s) (t : ℕ) (ty : PageType) (first k : ℕ) 
       let a = heap s in
       let same = (opens_run (thread_at a t) ty first k).cells in
       let long : length (with_run a.pages first k ty) ≡ length a.pages = run_length a.pages first k ty run.inside in
-      let cells = CellsStand-with_thread a t opened_thread s.cells same.stack same.exact h.holds.cells in
+      let cells = CellsStand-with_thread a t opened_thread s.cells same.stack same.exact same.raws h.holds.cells in
       record {
         words = record {
           long = h.holds.words.long ∙ ap (λ n. page_words * n) (sym long);
@@ -109,9 +109,11 @@ module _ (s : Inside) (h : IsSound s) (t : ℕ) (ty : PageType) (first k : ℕ) 
         cells = record {
           stack_length = cells.stack_length;
           exact_length = cells.exact_length;
+          raws_length = cells.raws_length;
           shared_length = cells.shared_length;
           stack = cells.stack;
           exact = cells.exact;
+          raws = cells.raws;
           shared = cells.shared;
         };
         states = states_set a s.states t opened_thread (state_with_region (get_or s.states t fresh_state) ty first k) h.holds.states

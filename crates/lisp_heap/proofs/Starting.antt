@@ -13,7 +13,7 @@ use Rattle.heap_terms.specs.Stands.{WordsStand}
 use Rattle.heap_terms.specs.Valid.{IsValid}
 use Rattle.heap_terms.specs.Spelling.{word_of}
 use Rattle.heap_laws.proofs.SoundHeaps.{start_thread_is, start_free}
-use Rattle.lisp_heap.specs.CellsView.{spot, zero_cells}
+use Rattle.lisp_heap.specs.CellsView.{spot, raw_spot, zero_cells}
 use Rattle.lisp_heap.specs.WorldSound.{IsSound, parts_of}
 use Rattle.lisp_heap.specs.Parts.{page_labels, fresh_parts}
 use Rattle.lisp_heap.specs.Standing.{CellsStand, LabelsStand, Holds}
@@ -60,6 +60,7 @@ start_stands p =
     record {
       stack_length = length-replicate (16 * n) 0 ∙ ap (λ (k : ℕ). 16 * k) (sym (start_count p));
       exact_length = length-replicate (16 * n) 0 ∙ ap (λ (k : ℕ). 16 * k) (sym (start_count p));
+      raws_length = length-replicate (8 * n) 0 ∙ ap (λ (k : ℕ). 8 * k) (sym (start_count p));
       shared_length = length-replicate {A = ℕ} 16 0;
       stack = λ t i ht hi. (
           let lt : t < length p.threads = subst (λ (k : ℕ). t < k) (start_count p) ht in
@@ -71,6 +72,11 @@ start_stands p =
           let inside : spot t i < 16 * n = omega arith in
           get_or-replicate (16 * n) (spot t i) 0 0 inside ∙ zero_cell (start p).objects i hi
           ∙ ap (λ (x : Thread). word_of (start p).objects (get_or x.exact i zero_value)) (sym (start_thread_is p t lt)));
+      raws = λ t i ht hi. (
+          let lt : t < length p.threads = subst (λ (k : ℕ). t < k) (start_count p) ht in
+          let inside : raw_spot t i < 8 * n = omega arith in
+          get_or-replicate (8 * n) (raw_spot t i) 0 0 inside ∙ sym (get_or-replicate 8 i 0 0 hi)
+          ∙ ap (λ (x : Thread). get_or x.raws i 0) (sym (start_thread_is p t lt)));
       shared = λ i hi. get_or-replicate 16 i 0 0 hi ∙ shared_cell p i hi;
     }
 

@@ -5,12 +5,14 @@ use Rattle.std.proofs.lemmas.List.{map-set, get_or-map}
 use Rattle.std.specs.Prelude.{slice_index, slice_set, IfSome}
 use Rattle.heap_terms.specs.declared.cells.Cell.{Cell}
 use Rattle.heap_terms.specs.declared.cells.Cell.TheVariants.{Stack, Exact, Shared}
+use Rattle.heap_terms.specs.declared.cells.Raw.{Raw}
 use Rattle.heap_terms.specs.declared.cells.Value.{Value}
 use Rattle.heap_terms.specs.declared.pages.Entry.{Entry}
 use Rattle.heap_terms.specs.Cells.{with_cell}
 use Rattle.heap_terms.specs.Heap.{NamedHeap, Thread, thread_at, with_thread, object_at, entry_at, fill_of}
 use Rattle.heap_terms.specs.Layout.{page_words, filler_word}
 use Rattle.heap_terms.specs.Objects.{Object}
+use Rattle.heap_terms.specs.RawCells.{with_raw}
 use Rattle.heap_terms.specs.Stands.{WordsStand, SlotsStand, KeptStand}
 use Rattle.heap_terms.specs.WellFormed.{IsOwned}
 use Rattle.lisp_heap.specs.Standing.{LabelsStand}
@@ -49,6 +51,10 @@ pub with_cell-states : (a : NamedHeap) (t : ℕ) (cell : Cell) (v : Value) → m
 with_cell-states a t (Stack i) v = map-set_same state_of a.threads t (record (thread_at a t) { stack = slice_set (thread_at a t).stack i v }) _ refl
 with_cell-states a t (Exact i) v = map-set_same state_of a.threads t (record (thread_at a t) { exact = slice_set (thread_at a t).exact i v }) _ refl
 with_cell-states a t (Shared i) v = refl
+
+-- and so does a write of a raw cell
+pub with_raw-states : (a : NamedHeap) (t : ℕ) (r : Raw) (word : ℕ) → map state_of (with_raw a t r word).threads ≡ map state_of a.threads
+with_raw-states a t r word = map-set_same state_of a.threads t (record (thread_at a t) { raws = slice_set (thread_at a t).raws r.0 word }) _ refl
 
 pub with_cell-threads : (a : NamedHeap) (t : ℕ) (cell : Cell) (v : Value) → length (with_cell a t cell v).threads ≡ length a.threads
 with_cell-threads a t (Stack i) v = length-set a.threads t (record (thread_at a t) { stack = slice_set (thread_at a t).stack i v })

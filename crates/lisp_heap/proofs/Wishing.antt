@@ -60,7 +60,17 @@ build_command p a t kind n seed e =
 pub is_cons_command : (c : Command) → IsBuilt c → wish_of c ≡ Make kinds.Cons 2 0 → ((d x y : Cell) → c ≡ commands.NewCons d x y → ⊥) → ⊥
 is_cons_command (commands.NewCons d x y) built wish none = none d x y refl
 is_cons_command (commands.Fix d n) built wish none = cc
+is_cons_command (commands.MakeNil d) built wish none = cc
+is_cons_command (commands.Move d k) built wish none = cc
 is_cons_command (commands.Get d k i) built wish none = cc
 is_cons_command (commands.Put k i b) built wish none = cc
+is_cons_command (commands.RawGet r k i) built wish none = cc
+is_cons_command (commands.RawPut k i r) built wish none = cc
+is_cons_command (commands.Same x y) built wish none = cc
 is_cons_command (commands.Show k) built wish none = cc
+is_cons_command (commands.Addr r k) built wish none = cc
+is_cons_command (commands.SetRaw r w) built wish none = cc
+is_cons_command (commands.AddRaw r n) built wish none = cc
+is_cons_command commands.Inhibit built wish none = cc
+is_cons_command commands.Allow built wish none = cc
 is_cons_command _ built wish none = absurd built

@@ -1,18 +1,22 @@
--- What a command that allocates nothing does to the words.
+-- What a command that allocates nothing does to the words, and to the state of its thread.
 use Rattle.std.specs.Prelude.{◌≡◌, ℕ, ◌+◌, ◌<◌, Some, List, length, slice_set}
 use Rattle.heap_terms.specs.declared.answers.Answer.{Answer}
 use Rattle.heap_terms.specs.declared.cells.Cell.{Cell}
+use Rattle.heap_terms.specs.declared.cells.Raw.{Raw}
 use Rattle.heap_terms.specs.declared.cells.Value.{Value}
-use Rattle.heap_terms.specs.declared.cells.Value.TheVariants as values
 use Rattle.heap_terms.specs.declared.commands.Command.{Command}
 use Rattle.heap_terms.specs.Cells.{with_cell}
-use Rattle.heap_terms.specs.Heap.{NamedHeap, object_at}
-use Rattle.heap_terms.specs.Objects.{Object, ConsOf}
+use Rattle.heap_terms.specs.Heap.{NamedHeap, object_at, thread_at, with_thread}
+use Rattle.heap_terms.specs.Objects.{Object, Contents, kind_of, payload_of}
 use Rattle.heap_terms.specs.Outcomes.{outcome_of}
-use Rattle.heap_terms.specs.Referents.{with_field_at}
-use Rattle.heap_terms.specs.Valid.{IsCell}
+use Rattle.heap_terms.specs.RawCells.{with_raw}
+use Rattle.heap_terms.specs.Slots.{Slot, slots}
+use Rattle.heap_terms.specs.Valid.{IsCell, IsRaw}
 use Rattle.heap_terms.specs.Spelling.{word_of}
-use Rattle.lisp_heap.specs.CellsView.{CellsView, HasCells, with_cell_word}
+use Rattle.heap_laws.specs.WordLaws.{word_of_slot}
+use Rattle.lisp_heap.specs.CellsView.{CellsView, HasCells, with_cell_word, with_raw_word}
+use Rattle.lisp_heap.specs.State.{with_inhibits}
+use Rattle.lisp_heap.specs.declared.states.ThreadState.{ThreadState}
 use Rattle.lisp_heap.specs.declared.plan.Change.{Change}
 use Rattle.lisp_heap.specs.declared.plan.Change.TheVariants as changes
 
@@ -20,19 +24,33 @@ use Rattle.lisp_heap.specs.declared.plan.Change.TheVariants as changes
 abbrev pub cells_after : CellsView → ℕ → Change → CellsView
 cells_after v t changes.Nothing = v
 cells_after v t (changes.InCell cell word) = with_cell_word v t cell word
+cells_after v t (changes.InRaw r word) = with_raw_word v t r word
 cells_after v t (changes.InSpace index word) = v
+cells_after v t (changes.Inhibits count) = v
 
 -- the words after a change
 abbrev pub words_after : List ℕ → Change → List ℕ
 words_after words changes.Nothing = words
 words_after words (changes.InCell cell word) = words
+words_after words (changes.InRaw r word) = words
 words_after words (changes.InSpace index word) = slice_set words index word
+words_after words (changes.Inhibits count) = words
+
+-- the states after a change
+abbrev pub states_after : List ThreadState → ℕ → Change → List ThreadState
+states_after states t changes.Nothing = states
+states_after states t (changes.InCell cell word) = states
+states_after states t (changes.InRaw r word) = states
+states_after states t (changes.InSpace index word) = states
+states_after states t (changes.Inhibits count) = with_inhibits states t count
 
 -- a change that the cells of thread t and the words have room for
 abbrev pub CanChange : CellsView → List ℕ → ℕ → Change → Type 0
 CanChange v words t changes.Nothing = Unit {0}
 CanChange v words t (changes.InCell cell word) = IsCell cell × HasCells v t
+CanChange v words t (changes.InRaw r word) = IsRaw r × HasCells v t
 CanChange v words t (changes.InSpace index word) = index < length words
+CanChange v words t (changes.Inhibits count) = Unit {0}
 
 -- a value goes into a cell
 pub record PutsInCell (a new : NamedHeap) (t : ℕ) (cell : Cell) (word : ℕ) : Type 0 where
@@ -41,26 +59,34 @@ pub record PutsInCell (a new : NamedHeap) (t : ℕ) (cell : Cell) (word : ℕ) :
   pub word_is : word ≡ word_of a.objects value
   pub effect : new ≡ with_cell a t cell value
 
--- a value goes into field i of a cons
-pub record PutsInCons (a new : NamedHeap) (index word : ℕ) : Type 0 where
-  pub value : Value
+-- a word goes into a raw cell
+pub record PutsInRaw (a new : NamedHeap) (t : ℕ) (r : Raw) (word : ℕ) : Type 0 where
+  pub is_raw : IsRaw r
+  pub effect : new ≡ with_raw a t r word
+
+-- one slot of an object becomes another, and its word with it: a field, or a raw word
+pub record PutsInSlot (a new : NamedHeap) (index word : ℕ) : Type 0 where
   pub name : ℕ
   pub object : Object
-  pub first : Value
-  pub second : Value
-  pub i : ℕ
-  pub low : i < 2
   pub there : object_at a.objects name ≡ Some object
-  pub cons : object.contents ≡ ConsOf first second
+  pub contents : Contents
+  pub kind : kind_of contents ≡ kind_of object.contents
+  pub payload : payload_of contents ≡ payload_of object.contents
+  pub i : ℕ
+  pub slot : Slot
+  pub within : i < length (slots object.contents)
+  pub slots_are : slots contents ≡ slice_set (slots object.contents) i slot
   pub at_index : index ≡ object.place + i
-  pub word_is : word ≡ word_of a.objects value
-  pub effect : new ≡ record a { objects = with_field_at a.objects (values.Ref name) i value }
+  pub word_is : word ≡ word_of_slot a.objects slot
+  pub effect : new ≡ record a { objects = slice_set a.objects name (Some (record object { contents = contents })) }
 
 -- a change of the words that makes a heap of another one
 abbrev pub Makes : NamedHeap → ℕ → NamedHeap → Change → Type 0
 Makes a t new changes.Nothing = new ≡ a
 Makes a t new (changes.InCell cell word) = PutsInCell a new t cell word
-Makes a t new (changes.InSpace index word) = PutsInCons a new index word
+Makes a t new (changes.InRaw r word) = PutsInRaw a new t r word
+Makes a t new (changes.InSpace index word) = PutsInSlot a new index word
+Makes a t new (changes.Inhibits count) = new ≡ with_thread a t (record (thread_at a t) { inhibits = count })
 
 -- the answer of thread t's command, and what changes with it
 pub record IsPlan (a : NamedHeap) (t : ℕ) (c : Command) (answer : Answer) (change : Change) : Type 0 where

@@ -3,19 +3,22 @@ use Rattle.std.specs.Prelude.{◌≡◌, ℕ, ◌*◌, ◌/◌, ◌<◌, List, l
 use Rattle.heap_terms.specs.Heap.{NamedHeap, thread_at, object_at, zero_value}
 use Rattle.heap_terms.specs.Stands.{WordsStand}
 use Rattle.heap_terms.specs.Spelling.{word_of}
-use Rattle.lisp_heap.specs.CellsView.{CellsView, cells_each, spot}
+use Rattle.lisp_heap.specs.CellsView.{CellsView, cells_each, raws_each, spot, raw_spot}
 use Rattle.lisp_heap.specs.Parts.{Parts, page_labels}
 use Rattle.lisp_heap.specs.State.{state_of}
 
--- each cell has the word of its value
+-- each cell has the word of its value, and each raw cell its word
 pub record CellsStand (a : NamedHeap) (v : CellsView) : Type 0 where
   pub stack_length : length v.stack ≡ cells_each * length a.threads
   pub exact_length : length v.exact ≡ cells_each * length a.threads
+  pub raws_length : length v.raws ≡ raws_each * length a.threads
   pub shared_length : length v.shared ≡ cells_each
   pub stack : (t i : ℕ) → t < length a.threads → i < cells_each →
       slice_index v.stack (spot t i) ≡ word_of a.objects (slice_index_or (thread_at a t).stack i zero_value)
   pub exact : (t i : ℕ) → t < length a.threads → i < cells_each →
       slice_index v.exact (spot t i) ≡ word_of a.objects (slice_index_or (thread_at a t).exact i zero_value)
+  pub raws : (t i : ℕ) → t < length a.threads → i < raws_each →
+      slice_index v.raws (raw_spot t i) ≡ slice_index_or (thread_at a t).raws i 0
   pub shared : (i : ℕ) → i < cells_each → slice_index v.shared i ≡ word_of a.objects (slice_index_or a.shared i zero_value)
 
 -- the label at each object's first double word is its name

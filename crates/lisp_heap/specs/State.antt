@@ -55,6 +55,10 @@ state_placed s size = record (if is_small size then s else record s { open_run =
 abbrev pub with_placed : List ThreadState → ℕ → ℕ → List ThreadState
 with_placed states t size = slice_set states t (state_placed (slice_index_or states t fresh_state) size)
 
+-- the states with another inhibit count of one thread
+abbrev pub with_inhibits : List ThreadState → ℕ → ℕ → List ThreadState
+with_inhibits states t count = slice_set states t (record (slice_index_or states t fresh_state) { inhibits = count })
+
 -- the states after one thread has ended
 abbrev pub with_ended : List ThreadState → ℕ → List ThreadState
 with_ended states t = slice_set states t (record fresh_state { done = (slice_index_or states t fresh_state).done; ended = true })

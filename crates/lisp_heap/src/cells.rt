@@ -1,22 +1,26 @@
-//! The words in the Lisp cells of all threads.
+//! The words in the cells of all threads.
 
 ghost use Rattle.std.specs.Prelude.{◌≡◌, ◌+◌, ◌*◌, ◌<◌, ◌≤◌, ◌^◌, ℕ, length, replicate, IfOk, slice_index, slice_set};
 ghost use Rattle.heap_terms.specs.declared.limits.TheConstants.{MOST_THREADS};
-ghost use Rattle.heap_terms.specs.Valid.{IsCell};
-ghost use Rattle.lisp_heap.specs.CellsView.{HasCells, cell_word, cells_each, cleared, with_cell_word, with_cleared, zero_cells};
+ghost use Rattle.heap_terms.specs.Valid.{IsCell, IsRaw};
+ghost use Rattle.lisp_heap.specs.CellsView.{HasCells, cell_word, cleared, raw_word, with_cell_word, with_cleared, with_raw_word, zero_cells};
 
-use heap_terms::{Cell, Memory};
+use heap_terms::{Cell, Memory, Raw};
 use std::alloc::Global;
 use std::marker::Model;
 
-/// How many cells of each kind a thread has, and how many all threads share.
+/// How many Lisp cells of each kind a thread has, and how many all threads share.
 const CELLS: usize = 16;
 
-/// The cells s and b of each thread, and the cells g.
+/// How many raw cells a thread has.
+const RAW_CELLS: usize = 8;
+
+/// The cells s, b and r of each thread, and the cells g.
 #[derive(Drop)]
 pub struct CellWords {
     stack: Vec<u64>,
     exact: Vec<u64>,
+    raws: Vec<u64>,
     shared: Vec<u64>,
 }
 
@@ -25,7 +29,7 @@ impl Model for CellWords {
 
     ghost Value = { CellsView };
 
-    ghost view = { λ s. record { stack = s.stack.items; exact = s.exact.items; shared = s.shared.items } };
+    ghost view = { λ s. record { stack = s.stack.items; exact = s.exact.items; raws = s.raws.items; shared = s.shared.items } };
 }
 
 /// So many words, each 0, which is the fixnum 0.
@@ -39,16 +43,17 @@ fn zeros(alloc: Global, count: usize) -> Result<Vec<u64>, Memory>
     }
 }
 
-/// Puts zeros into the cells of one thread.
-fn clear(words: &mut [u64], from: usize)
-    requires { from + cells_each ≤ length words.old }
-    ensures { (t : ℕ) → from ≡ cells_each * t → words.new ≡ cleared words.old t }
+/// Puts zeros into the cells of one thread, of which each thread has N.
+fn clear<const N: usize>(words: &mut [u64], from: usize)
+    requires { from + N ≤ length words.old }
+    ensures words { (t : ℕ) → from ≡ N * t → words.new ≡ cleared N words.old t }
+    ensures len { length words.new ≡ length words.old }
 {
-    words[from..from + CELLS].copy_from_slice(&[0; CELLS]);
+    words[from..from + N].copy_from_slice(&[0; N]);
 }
 
 impl CellWords {
-    /// The cells of so many threads, each the fixnum 0.
+    /// The cells of so many threads, each the fixnum 0, and each raw cell the word 0.
     pub fn new(alloc: Global, threads: usize) -> Result<CellWords, Memory>
         requires { threads ≤ MOST_THREADS }
         ensures { IfOk result (λ cells. cells ≡ zero_cells threads) }
@@ -56,6 +61,7 @@ impl CellWords {
         Ok(CellWords {
             stack: zeros(alloc, CELLS * threads)?,
             exact: zeros(alloc, CELLS * threads)?,
+            raws: zeros(alloc, RAW_CELLS * threads)?,
             shared: zeros(alloc, CELLS)?,
         })
     }
@@ -88,12 +94,33 @@ impl CellWords {
         }
     }
 
+    /// The word in a raw cell of thread t.
+    #[inline(always)]
+    pub fn raw(&self, t: usize, r: Raw) -> u64
+        requires cell { IsRaw r }
+        requires room { HasCells self.now t }
+        ensures { result ≡ raw_word self.now t r }
+    {
+        self.raws[RAW_CELLS * t + r.0 as usize]
+    }
+
+    /// Puts a word into a raw cell of thread t.
+    #[inline(always)]
+    pub fn set_raw(&mut self, t: usize, r: Raw, word: u64)
+        requires cell { IsRaw r }
+        requires room { HasCells self.old t }
+        ensures { self.new ≡ with_raw_word self.old t r word }
+    {
+        self.raws[RAW_CELLS * t + r.0 as usize] = word;
+    }
+
     /// Clears thread t's own cells.
     pub fn clear(&mut self, t: usize)
         requires { HasCells self.old t }
         ensures { self.new ≡ with_cleared self.old t }
     {
-        clear(self.stack.as_mut_slice(), CELLS * t);
-        clear(self.exact.as_mut_slice(), CELLS * t);
+        clear::<CELLS>(self.stack.as_mut_slice(), CELLS * t);
+        clear::<CELLS>(self.exact.as_mut_slice(), CELLS * t);
+        clear::<RAW_CELLS>(self.raws.as_mut_slice(), RAW_CELLS * t);
     }
 }

@@ -5,12 +5,16 @@
 
 mod agreement;
 mod allocating;
+mod cell_commands;
 mod cells;
 mod committing;
+mod field_commands;
+mod inhibit_commands;
 mod new_world;
 mod parcels;
 mod plan;
-mod reading;
+mod raw_commands;
+mod referents;
 mod states;
 mod wishes;
 mod world;

@@ -2,7 +2,7 @@
 
 ghost use Rattle.std.specs.Prelude.{◌≡◌, ◌+◌, ◌<◌, ◌^◌, length, slice_get, slice_index_or, replicate, IfOk};
 ghost use Rattle.std.specs.Option.{ForSome};
-ghost use Rattle.lisp_heap.specs.State.{advanced, fresh_state, state_page, state_with_page, state_with_region, with_ended, with_placed, with_region_open};
+ghost use Rattle.lisp_heap.specs.State.{advanced, fresh_state, state_page, state_with_page, state_with_region, with_ended, with_inhibits, with_placed, with_region_open};
 
 use heap_terms::{Memory, PAGE_WORDS, PageType};
 use std::alloc::Global;
@@ -170,6 +170,15 @@ impl States {
         ensures { self.new ≡ with_region_open self.old t ty first pages }
     {
         self.states[t] = self.states[t].with_region(ty, first, pages);
+    }
+
+    /// One thread has this inhibit count from now on.
+    #[inline(always)]
+    pub fn set_inhibits(&mut self, t: usize, count: u32)
+        requires { t < length self.old }
+        ensures { self.new ≡ with_inhibits self.old t count }
+    {
+        self.states[t].inhibits = count;
     }
 
     /// One thread has ended.

@@ -232,8 +232,12 @@ impl World {
                 let plan = self.fixed(t as usize, d, n);
                 self.carry_out(t, command, plan)
             }
-            Command::Show { c } => {
-                let plan = self.shown(t as usize, c);
+            Command::MakeNil { d } => {
+                let plan = self.made_nil(t as usize, d);
+                self.carry_out(t, command, plan)
+            }
+            Command::Move { d, c } => {
+                let plan = self.moved(t as usize, d, c);
                 self.carry_out(t, command, plan)
             }
             Command::Get { d, c, i } => {
@@ -244,7 +248,64 @@ impl World {
                 let plan = self.put(t as usize, c, i, a);
                 self.carry_out(t, command, plan)
             }
-            _ => unreachable!(),
+            Command::RawGet { r, c, i } => {
+                let plan = self.raw_got(t as usize, r, c, i);
+                self.carry_out(t, command, plan)
+            }
+            Command::RawPut { c, i, r } => {
+                let plan = self.raw_put(t as usize, c, i, r);
+                self.carry_out(t, command, plan)
+            }
+            Command::Same { a, b } => {
+                let plan = self.compared(t as usize, a, b);
+                self.carry_out(t, command, plan)
+            }
+            Command::Show { c } => {
+                let plan = self.shown(t as usize, c);
+                self.carry_out(t, command, plan)
+            }
+            Command::Addr { r, c } => {
+                let plan = self.addressed(t as usize, r, c);
+                self.carry_out(t, command, plan)
+            }
+            Command::SetRaw { r, w } => {
+                let plan = self.set(t as usize, r, w);
+                self.carry_out(t, command, plan)
+            }
+            Command::AddRaw { r, k } => {
+                let plan = self.added(t as usize, r, k);
+                self.carry_out(t, command, plan)
+            }
+            Command::Inhibit => {
+                let plan = self.inhibited(t as usize);
+                self.carry_out(t, command, plan)
+            }
+            Command::Allow => {
+                let plan = self.allowed(t as usize);
+                self.carry_out(t, command, plan)
+            }
+            // These allocate.
+            Command::NewCons { .. }
+            | Command::NewVector { .. }
+            | Command::NewInstance { .. }
+            | Command::NewClosure { .. }
+            | Command::NewWords { .. }
+            | Command::NewWeak { .. }
+            | Command::NewTable { .. } => unreachable!(),
+            // These are not built yet.
+            Command::Pin { .. }
+            | Command::Unpin
+            | Command::WeakVal { .. }
+            | Command::TablePut { .. }
+            | Command::TableGet { .. }
+            | Command::TableRem { .. }
+            | Command::TableCount { .. }
+            | Command::Finalize { .. }
+            | Command::Cancel { .. }
+            | Command::RunFinalizers
+            | Command::Collect { .. }
+            | Command::ShowPage { .. }
+            | Command::Stat { .. } => unreachable!(),
         }
     }
 
@@ -265,7 +326,13 @@ impl World {
             command,
             answer,
         })?;
-        apply(&mut self.cells, &mut self.space, t as usize, change);
+        apply(
+            &mut self.cells,
+            &mut self.space,
+            &mut self.states,
+            t as usize,
+            change,
+        );
         self.states.advance(t as usize);
         Ok(())
     }

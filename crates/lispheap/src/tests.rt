@@ -103,6 +103,56 @@ fn scripts_give_their_journals(rt: HostRuntime) -> Result<(), Fail> {
 }
 
 #[test]
+fn cells_are_moved_compared_and_addressed(rt: HostRuntime) -> Result<(), Fail> {
+    let alloc = rt.alloc();
+    for (input, journal) in [
+        (
+            "lispheap 1\nheap 1\nthread\nfix s0 4611686018427387903\naddr r0 s0\nend\n",
+            "0 fix s0 4611686018427387903 -> ok\n0 addr r0 s0 -> 0x7ffffffffffffffe\n0 end\ndone 3\n",
+        ),
+        (
+            "lispheap 1\nheap 1\nthread\ncons b0 s0 s0\nmove g3 b0\neq g3 b0\nnil g3\neq g3 b0\nshow b0\nshow g3\naddr r7 b0\naddr r7 g3\nend\n",
+            "0 open cons 0 1\n0 cons b0 s0 s0 -> #0 @0\n0 move g3 b0 -> ok\n0 eq g3 b0 -> yes\n0 nil g3 -> ok\n0 eq g3 b0 -> no\n0 show b0 -> #0\n0 show g3 -> nil\n0 addr r7 b0 -> 0x0000001000000007\n0 addr r7 g3 -> 0x0000000000000117\n0 end\ndone 11\n",
+        ),
+        (
+            "lispheap 1\nheap 1\nthread\nraw r0 0xfFfffFffffffffff\nadd r0 2\nadd r0 -9223372036854775808\nadd\tr0  9223372036854775807\nadd r1 -1\nend\n",
+            "0 raw r0 0xffffffffffffffff -> ok\n0 add r0 2 -> 0x0000000000000001\n0 add r0 -9223372036854775808 -> 0x8000000000000001\n0 add r0 9223372036854775807 -> 0x0000000000000000\n0 add r1 -1 -> 0xffffffffffffffff\n0 end\ndone 6\n",
+        ),
+        (
+            "lispheap 1\nheap 1\nthread\nrawget r0 s0 0\nrawput s0 0 r0\ncons b0 s0 s0\nrawget r0 b0 9\nrawput b0 9 r0\nget b0 b0 0\nput b0 0 b0\nend\n",
+            "0 rawget r0 s0 0 -> !type\n0 rawput s0 0 r0 -> !type\n0 open cons 0 1\n0 cons b0 s0 s0 -> #0 @0\n0 rawget r0 b0 9 -> !type\n0 rawput b0 9 r0 -> !type\n0 get b0 b0 0 -> 0\n0 put b0 0 b0 -> !type\n0 end\ndone 9\n",
+        ),
+    ] {
+        assert_replay(&rt, alloc, input.as_bytes(), 0, journal, "")?;
+    }
+    for (input, said) in [
+        (
+            "lispheap 1\nheap 1\nthread\nfix s0 4611686018427387903\naddr r0 s0\nfix s0 4611686018427387904\nend\n",
+            "lispheap: line 6: range\n",
+        ),
+        (
+            "lispheap 1\nheap 1\nthread\nadd r0 9223372036854775808\n",
+            "lispheap: line 4: range\n",
+        ),
+        (
+            "lispheap 1\nheap 1\nthread\nraw r8 0x0\n",
+            "lispheap: line 4: form\n",
+        ),
+        (
+            "lispheap 1\nheap 1\nthread\nraw r0 0x00000000000000000\n",
+            "lispheap: line 4: form\n",
+        ),
+        (
+            "lispheap 1\nheap 1\nthread\nrawget s0 s0 0\n",
+            "lispheap: line 4: form\n",
+        ),
+    ] {
+        assert_replay(&rt, alloc, input.as_bytes(), 3, "", said)?;
+    }
+    Ok(())
+}
+
+#[test]
 fn the_257th_cons_of_a_page_is_refused(rt: HostRuntime) -> Result<(), Fail> {
     let alloc = rt.alloc();
     let mut input = String::from_str(alloc, "lispheap 1\nheap 1\nthread\n")?;

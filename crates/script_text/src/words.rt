@@ -53,6 +53,16 @@ pub(crate) fn meaning_of(word: &[u8]) -> Option<Keyword>
         b"put" => Some(Keyword::Command(Name::Put)),
         b"show" => Some(Keyword::Command(Name::Show)),
         b"fix" => Some(Keyword::Command(Name::Fix)),
+        b"nil" => Some(Keyword::Command(Name::Nil)),
+        b"move" => Some(Keyword::Command(Name::Move)),
+        b"eq" => Some(Keyword::Command(Name::Eq)),
+        b"rawget" => Some(Keyword::Command(Name::RawGet)),
+        b"rawput" => Some(Keyword::Command(Name::RawPut)),
+        b"addr" => Some(Keyword::Command(Name::Addr)),
+        b"raw" => Some(Keyword::Command(Name::Raw)),
+        b"add" => Some(Keyword::Command(Name::Add)),
+        b"nogc" => Some(Keyword::Command(Name::Nogc)),
+        b"gcok" => Some(Keyword::Command(Name::Gcok)),
         b"schedule" => Some(Keyword::Schedule),
         b"thread" => Some(Keyword::Thread),
         b"end" => Some(Keyword::End),
@@ -73,6 +83,33 @@ fn plain_word<'a, const N: usize>(rest: &'a [u8], spelled: &[u8; N]) -> Option<&
     Some(after)
 }
 
+/// The name of a command that begins with `a`, as below.
+#[inline(always)]
+fn plain_a(rest: &[u8]) -> Option<(Name, &[u8])>
+    ensures taken { IfSome result (λ f. Taken rest.now (text_of_name f.0) f.1.now) }
+    ensures built { IfSome result (λ f. is_built (text_of_name f.0) ≡ true) }
+{
+    match plain_word(rest, b"addr ") {
+        Some(after) => Some((Name::Addr, after)),
+        None => Some((Name::Add, plain_word(rest, b"add ")?)),
+    }
+}
+
+/// The name of a command that begins with `r`, as below.
+#[inline(always)]
+fn plain_r(rest: &[u8]) -> Option<(Name, &[u8])>
+    ensures taken { IfSome result (λ f. Taken rest.now (text_of_name f.0) f.1.now) }
+    ensures built { IfSome result (λ f. is_built (text_of_name f.0) ≡ true) }
+{
+    if let Some(after) = plain_word(rest, b"rawget ") {
+        return Some((Name::RawGet, after));
+    }
+    match plain_word(rest, b"rawput ") {
+        Some(after) => Some((Name::RawPut, after)),
+        None => Some((Name::Raw, plain_word(rest, b"raw ")?)),
+    }
+}
+
 /// The name of a command that is built, with a space after it, and the bytes from that space on.
 #[inline(always)]
 pub(crate) fn plain_name(rest: &[u8]) -> Option<(Name, &[u8])>
@@ -88,6 +125,11 @@ pub(crate) fn plain_name(rest: &[u8]) -> Option<(Name, &[u8])>
         b'p' => Some((Name::Put, plain_word(rest, b"put ")?)),
         b's' => Some((Name::Show, plain_word(rest, b"show ")?)),
         b'f' => Some((Name::Fix, plain_word(rest, b"fix ")?)),
+        b'n' => Some((Name::Nil, plain_word(rest, b"nil ")?)),
+        b'm' => Some((Name::Move, plain_word(rest, b"move ")?)),
+        b'e' => Some((Name::Eq, plain_word(rest, b"eq ")?)),
+        b'a' => plain_a(rest),
+        b'r' => plain_r(rest),
         _ => None,
     }
 }

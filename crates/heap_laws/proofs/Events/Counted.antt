@@ -35,6 +35,7 @@ pub record IsCount (p : Program) (a b : NamedHeap) (t : ℕ) : Type 0 where
   pub ended : (thread_at b t).ended ≡ (thread_at a t).ended
   pub owed : owes (thread_at b t).owed + triggers_left p b ≤ owes (thread_at a t).owed + triggers_left p a
   pub calm : p.auto ≡ 0 → (thread_at b t).owed ≡ (thread_at a t).owed
+  pub inhibits : (thread_at b t).inhibits ≡ (thread_at a t).inhibits
   pub objects : b.objects ≡ a.objects
   pub pages : b.pages ≡ a.pages
   pub threads : length b.threads ≡ length a.threads
@@ -54,6 +55,7 @@ counts p a t size = elim (cases_Bool (triggers p a size)) [
     ended = refl;
     owed = omega arith;
     calm = λ off. refl;
+    inhibits = refl;
     objects = refl;
     pages = refl;
     threads = refl;
@@ -70,6 +72,7 @@ counts p a t size = elim (cases_Bool (triggers p a size)) [
           ended = elim (thread_cases a t t new) [ inl e ↦ rw e refl | inr e ↦ rw e.2 refl ];
           owed = (let most = owes_most (thread_at (with_thread a t new) t).owed in omega arith);
           calm = λ off. absurd (off_never p a size off reached);
+          inhibits = elim (thread_cases a t t new) [ inl e ↦ rw e refl | inr e ↦ rw e.2 refl ];
           objects = refl;
           pages = refl;
           threads = length-set a.threads t new;

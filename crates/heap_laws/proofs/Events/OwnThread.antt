@@ -42,6 +42,7 @@ pub record IsBuilt (p : Program) (a b : NamedHeap) (t : ℕ) (c : Command) (kind
   pub ended : (thread_at b t).ended ≡ (thread_at a t).ended
   pub owed : owes (thread_at b t).owed + triggers_left p b ≤ owes (thread_at a t).owed + triggers_left p a
   pub calm : p.auto ≡ 0 → (thread_at b t).owed ≡ (thread_at a t).owed
+  pub inhibits : (thread_at b t).inhibits ≡ (thread_at a t).inhibits
   pub threads : length b.threads ≡ length a.threads
   pub objects : b.objects ≡ a.objects ++ Some (new_object a t c (place_for a t kind (size_of kind n))) ∷ []
   pub pages : b.pages ≡ pages_after a t kind (size_of kind n)
@@ -56,12 +57,13 @@ with_destination-objects b t (Some d) v = with_cell-objects b t d v
 
 -- a thread that uses its run up is as far as it was
 run_used-far : (th : Thread) (size : ℕ) → ((run_used th size).done ≡ th.done) × ((run_used th size).ended ≡ th.ended) × ((run_used th size).owed ≡ th.owed)
+    × ((run_used th size).inhibits ≡ th.inhibits)
 run_used-far th size = go (is_small size)
   where
     go : (b : Bool) → ((if b then th else record th { open_run = None }).done ≡ th.done) × ((if b then th else record th { open_run = None }).ended ≡ th.ended)
-        × ((if b then th else record th { open_run = None }).owed ≡ th.owed)
-    go true = (refl, refl, refl)
-    go false = (refl, refl, refl)
+        × ((if b then th else record th { open_run = None }).owed ≡ th.owed) × ((if b then th else record th { open_run = None }).inhibits ≡ th.inhibits)
+    go true = (refl, refl, refl, refl)
+    go false = (refl, refl, refl, refl)
 
 pub built_heap : (p : Program) (a : NamedHeap) (t : ℕ) (c : Command) (kind : Kind) (n : ℕ) → IsBuilt p a (committed p a t c kind n) t c kind n
 unfolding committed
@@ -75,10 +77,11 @@ built_heap p a t c kind n =
     let b = with_destination placed t (destination_of c) v in
     let count = counts p b t size in
     let far = run_used-far (thread_at a t) size in
-    let own : ((thread_at placed t).done ≡ (thread_at a t).done) × ((thread_at placed t).ended ≡ (thread_at a t).ended) × ((thread_at placed t).owed ≡ (thread_at a t).owed) =
+    let own : ((thread_at placed t).done ≡ (thread_at a t).done) × ((thread_at placed t).ended ≡ (thread_at a t).ended) × ((thread_at placed t).owed ≡ (thread_at a t).owed)
+    × ((thread_at placed t).inhibits ≡ (thread_at a t).inhibits) =
     elim (thread_cases a t t th) [
-      | inl e ↦ (ap (λ (x : Thread). x.done) e, ap (λ (x : Thread). x.ended) e, ap (λ (x : Thread). x.owed) e)
-      | inr e ↦ (ap (λ (x : Thread). x.done) e.2 ∙ far.0, ap (λ (x : Thread). x.ended) e.2 ∙ far.1, ap (λ (x : Thread). x.owed) e.2 ∙ far.2)
+      | inl e ↦ (ap (λ (x : Thread). x.done) e, ap (λ (x : Thread). x.ended) e, ap (λ (x : Thread). x.owed) e, ap (λ (x : Thread). x.inhibits) e)
+      | inr e ↦ (ap (λ (x : Thread). x.done) e.2 ∙ far.0, ap (λ (x : Thread). x.ended) e.2 ∙ far.1, ap (λ (x : Thread). x.owed) e.2 ∙ far.2, ap (λ (x : Thread). x.inhibits) e.2 ∙ far.3)
     ] in
     let task = board.tasks t in
     let left_same : triggers_left p b ≡ triggers_left p a = ap (λ (x : ℕ). triggers_left p (record a { triggered = x })) board.triggered in
@@ -90,6 +93,7 @@ built_heap p a t c kind n =
       ended = count.ended ∙ task.ended ∙ own.1;
       owed = (let less = count.owed in omega arith);
       calm = λ off. count.calm off ∙ task.owed ∙ own.2;
+      inhibits = count.inhibits ∙ task.inhibits ∙ own.3;
       threads = count.threads ∙ board.threads ∙ length-set a.threads t th;
       objects = count.objects ∙ with_destination-objects placed t (destination_of c) v;
       pages = count.pages ∙ board.pages;

@@ -1,5 +1,5 @@
 -- What an event changes of a thread beside its cells: how far it is, its regions, what it owes, and whether it has ended.
-use Rattle.std.proofs.Common.{◌≡◌, ◌≢◌, ℕ, ◌+◌, ◌<◌, ◌≤◌, List, length, Option, Some, None, Bool, true, false, inl, inr, refl, sym, ◌∙◌, set}
+use Rattle.std.proofs.Common.{◌≡◌, ◌≢◌, ℕ, ◌+◌, ◌<◌, ◌≤◌, List, length, Option, Some, None, Bool, true, false, inl, inr, refl, sym, ◌∙◌, set, arith}
 use Rattle.std.proofs.lemmas.List.{length-set}
 use Rattle.std.specs.Prelude.{if◌then◌else◌, ◌==◌}
 use Rattle.heap_terms.specs.declared.cells.Cell.{Cell}
@@ -93,11 +93,12 @@ with_cell-objects a t (Stack i) v = refl
 with_cell-objects a t (Exact i) v = refl
 with_cell-objects a t (Shared i) v = refl
 
--- a thread is as far as it was, and owes what it owed unless it asks for a collection
+-- a thread is as far as it was, inhibits once more at most, and owes what it owed unless it asks for a collection
 pub record IsAsFar (asks : Bool) (old new : Thread) : Type 0 where
   pub done : new.done ≡ old.done
   pub ended : new.ended ≡ old.ended
   pub owed : asks ≡ false → new.owed ≡ old.owed
+  pub inhibits : new.inhibits ≤ old.inhibits + 1
 
 -- a change by thread t's command that leaves pages and the tasks of the others, and adds no object
 pub record IsOwnChange (a b : NamedHeap) (t : ℕ) (asks : Bool) : Type 0 where
@@ -110,7 +111,7 @@ pub record IsOwnChange (a b : NamedHeap) (t : ℕ) (asks : Bool) : Type 0 where
 
 pub board-own : (a b : NamedHeap) (t : ℕ) (asks : Bool) → IsSameBoard a b → IsOwnChange a b t asks
 board-own a b t asks h = record {
-  own = let task = h.tasks t in record { done = task.done; ended = task.ended; owed = λ _. task.owed };
+  own = let task = h.tasks t in record { done = task.done; ended = task.ended; owed = λ _. task.owed; inhibits = omega (arith, task.inhibits) };
   others = λ u other. h.tasks u;
   pages = h.pages;
   objects = h.objects;
@@ -131,8 +132,8 @@ outcome-board p a t c w few l alive in_range = by_outcome p a t (λ b. IsOwnChan
     (λ d v living. board-own a (with_cell a t d v) t (is_gc c) (with_cell-board a t d v))
     (λ th r. record {
       own = elim (thread_cases a t t th) [
-        | inl e ↦ rw e (record { done = refl; ended = refl; owed = λ _. refl })
-        | inr e ↦ rw e.2 (record { done = r.done; ended = r.ended; owed = r.owed })
+        | inl e ↦ rw e (record { done = refl; ended = refl; owed = λ _. refl; inhibits = omega arith })
+        | inr e ↦ rw e.2 (record { done = r.done; ended = r.ended; owed = r.owed; inhibits = r.inhibits })
       ];
       others = λ u other. rw (other_thread a t u th other) (same_task (thread_at a u));
       pages = refl;

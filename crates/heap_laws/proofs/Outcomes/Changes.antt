@@ -44,6 +44,7 @@ use Rattle.heap_laws.proofs.WellFormed.Threads.{HasCells, cells_of}
 pub record IsRewritten (objects : List (Option Object)) (asks : Bool) (old new : Thread) : Type 0 where
   pub cells : HasCells objects new
   pub owed : asks ≡ false → new.owed ≡ old.owed
+  pub inhibits : new.inhibits ≤ old.inhibits + 1
   pub done : new.done ≡ old.done
   pub ended : new.ended ≡ old.ended
   pub cons_page : new.cons_page ≡ old.cons_page
@@ -125,6 +126,7 @@ module _ (p : Program) (a : NamedHeap) (t : ℕ) (P : NamedHeap → Type 0) (w :
       inhibits = cells.inhibits;
     };
     owed = λ _. refl;
+    inhibits = omega arith;
     done = refl;
     ended = refl;
     cons_page = refl;
@@ -149,6 +151,7 @@ module _ (p : Program) (a : NamedHeap) (t : ℕ) (P : NamedHeap → Type 0) (w :
       inhibits = cells.inhibits;
     };
     owed = λ _. refl;
+    inhibits = omega arith;
     done = refl;
     ended = refl;
     cons_page = refl;
@@ -159,8 +162,8 @@ module _ (p : Program) (a : NamedHeap) (t : ℕ) (P : NamedHeap → Type 0) (w :
 
   -- what the thread owes, and its inhibit count
   numbered : (owed : Option ℕ) (inhibits : ℕ) → IfSome owed (λ last. last ≤ 5) → (asks ≡ false → owed ≡ (thread_at a t).owed) →
-      P (with_thread a t (record (thread_at a t) { owed = owed; inhibits = inhibits }))
-  numbered owed inhibits most is = thread (record (thread_at a t) { owed = owed; inhibits = inhibits }) (record {
+      inhibits ≤ (thread_at a t).inhibits + 1 → P (with_thread a t (record (thread_at a t) { owed = owed; inhibits = inhibits }))
+  numbered owed inhibits most is few = thread (record (thread_at a t) { owed = owed; inhibits = inhibits }) (record {
     cells = record {
       stack_length = cells.stack_length;
       exact_length = cells.exact_length;
@@ -174,6 +177,7 @@ module _ (p : Program) (a : NamedHeap) (t : ℕ) (P : NamedHeap → Type 0) (w :
       inhibits = λ e. absurd (false≢true (sym alive ∙ e));
     };
     owed = is;
+    inhibits = few;
     done = refl;
     ended = refl;
     cons_page = refl;
@@ -286,9 +290,9 @@ module _ (p : Program) (a : NamedHeap) (t : ℕ) (P : NamedHeap → Type 0) (w :
       finalized (filter (λ entry. not (entry.0 == name)) a.finalizers) (All-filter (λ entry. not (entry.0 == name)) (IsFinalizer a.objects) a.finalizers w.sound.finalizers))
   by_outcome RunFinalizers asked r = by_test (λ (o : Outcome). P o.heap) (length a.queue == 0) _ _ (λ e. same) (λ e. ran)
   by_outcome (Collect g) asked r = numbered (owing (thread_at a t).owed g) (thread_at a t).inhibits (owing-most (thread_at a t).owed g cells.owed r)
-      (λ calm. absurd (false≢true (sym calm ∙ sym asked)))
-  by_outcome Inhibit asked r = numbered (thread_at a t).owed ((thread_at a t).inhibits + 1) cells.owed (λ _. refl)
+      (λ calm. absurd (false≢true (sym calm ∙ sym asked))) (omega arith)
+  by_outcome Inhibit asked r = numbered (thread_at a t).owed ((thread_at a t).inhibits + 1) cells.owed (λ _. refl) (omega arith)
   by_outcome Allow asked r = by_test (λ (o : Outcome). P o.heap) ((thread_at a t).inhibits == 0) _ _ (λ e. same)
-      (λ e. numbered (thread_at a t).owed ((thread_at a t).inhibits - 1) cells.owed (λ _. refl))
+      (λ e. numbered (thread_at a t).owed ((thread_at a t).inhibits - 1) cells.owed (λ _. refl) (omega arith))
   by_outcome (ShowPage page) asked r = by_test (λ (o : Outcome). P o.heap) (nat_lt page (length a.pages)) _ _ (λ e. same) (λ e. same)
   by_outcome (Stat g) asked r = same

@@ -5,7 +5,7 @@ use Rattle.std.proofs.lemmas.List.{get_or_past}
 use Rattle.std.proofs.lemmas.Option.{slice_get_within, get_or_from_slice_get, none-some}
 use Rattle.std.specs.Prelude.{slice_get}
 use Rattle.heap_terms.specs.declared.commands.Command.{Command}
-use Rattle.heap_terms.specs.declared.commands.Command.TheVariants.{Fix, NewCons, Get, Put, Show}
+use Rattle.heap_terms.specs.declared.commands.Command.TheVariants.{Fix, MakeNil, Move, NewCons, Get, Put, RawGet, RawPut, Same, Show, Addr, SetRaw, AddRaw, Inhibit, Allow}
 use Rattle.heap_terms.specs.declared.kinds.Kind.{Kind}
 use Rattle.heap_terms.specs.declared.kinds.Kind.TheVariants as kinds
 use Rattle.heap_terms.specs.declared.programs.Program.{Program}
@@ -30,31 +30,61 @@ script_command p t i c valid e =
     subst (λ x. IsCommand x) (get_or_from_slice_get (script_of p t) i c c e)
     (valid.commands t [] (script_thread p t i c e) i c (script_place p t i c e))
 
--- the five commands that are built
+-- the commands that are built
 abbrev pub IsBuilt : Command → Type 0
 IsBuilt (Fix d n) = Unit {0}
+IsBuilt (MakeNil d) = Unit {0}
+IsBuilt (Move d c) = Unit {0}
 IsBuilt (NewCons d a b) = Unit {0}
 IsBuilt (Get d c i) = Unit {0}
 IsBuilt (Put c i a) = Unit {0}
+IsBuilt (RawGet r c i) = Unit {0}
+IsBuilt (RawPut c i r) = Unit {0}
+IsBuilt (Same a b) = Unit {0}
 IsBuilt (Show c) = Unit {0}
+IsBuilt (Addr r c) = Unit {0}
+IsBuilt (SetRaw r w) = Unit {0}
+IsBuilt (AddRaw r k) = Unit {0}
+IsBuilt Inhibit = Unit {0}
+IsBuilt Allow = Unit {0}
 IsBuilt _ = ⊥
 
 -- no other command's word is read
 pub IsBuilt-from_word : (c : Command) → is_built (name_of c) ≡ true → IsBuilt c
 IsBuilt-from_word (Fix d n) e = tt
+IsBuilt-from_word (MakeNil d) e = tt
+IsBuilt-from_word (Move d c) e = tt
 IsBuilt-from_word (NewCons d a b) e = tt
 IsBuilt-from_word (Get d c i) e = tt
 IsBuilt-from_word (Put c i a) e = tt
+IsBuilt-from_word (RawGet r c i) e = tt
+IsBuilt-from_word (RawPut c i r) e = tt
+IsBuilt-from_word (Same a b) e = tt
 IsBuilt-from_word (Show c) e = tt
+IsBuilt-from_word (Addr r c) e = tt
+IsBuilt-from_word (SetRaw r w) e = tt
+IsBuilt-from_word (AddRaw r k) e = tt
+IsBuilt-from_word Inhibit e = tt
+IsBuilt-from_word Allow e = tt
 IsBuilt-from_word _ e = false≢true e
 
 -- what a built command wishes for
 pub built_wish : (c : Command) → IsBuilt c → (wish_of c ≡ Nothing) ⊎ (wish_of c ≡ Make kinds.Cons 2 0)
 built_wish (Fix d n) built = inl refl
+built_wish (MakeNil d) built = inl refl
+built_wish (Move d c) built = inl refl
 built_wish (NewCons d a b) built = inr refl
 built_wish (Get d c i) built = inl refl
 built_wish (Put c i a) built = inl refl
+built_wish (RawGet r c i) built = inl refl
+built_wish (RawPut c i r) built = inl refl
+built_wish (Same a b) built = inl refl
 built_wish (Show c) built = inl refl
+built_wish (Addr r c) built = inl refl
+built_wish (SetRaw r w) built = inl refl
+built_wish (AddRaw r k) built = inl refl
+built_wish Inhibit built = inl refl
+built_wish Allow built = inl refl
 built_wish _ built = absurd built
 
 -- a command of a valid program's scripts is built

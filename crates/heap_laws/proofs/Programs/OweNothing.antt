@@ -2,7 +2,7 @@
 use Rattle.std.proofs.Common.{◌≡◌, ℕ, List, Some, None, false, inl, inr, refl, sym, ◌∙◌, ap}
 use Rattle.std.proofs.lemmas.Bool.{cases_eq}
 use Rattle.heap_terms.specs.declared.commands.Command.{Command}
-use Rattle.heap_terms.specs.declared.commands.Command.TheVariants.{Fix, NewCons, Get, Put, Show}
+use Rattle.heap_terms.specs.declared.commands.Command.TheVariants.{Fix, MakeNil, Move, NewCons, Get, Put, RawGet, RawPut, Same, Show, Addr, SetRaw, AddRaw, Inhibit, Allow}
 use Rattle.heap_terms.specs.declared.events.Event.{Event}
 use Rattle.heap_terms.specs.declared.pages.Next.TheVariants as nexts
 use Rattle.heap_terms.specs.declared.programs.Program.{Program}
@@ -24,10 +24,20 @@ use Rattle.heap_laws.proofs.WellFormed.Threads.{start-well_formed, start_thread,
 -- no command that is built asks for a collection
 no_gc : (c : Command) → IsBuilt c → is_gc c ≡ false
 no_gc (Fix d n) built = refl
+no_gc (MakeNil d) built = refl
+no_gc (Move d c) built = refl
 no_gc (NewCons d x y) built = refl
 no_gc (Get d c i) built = refl
 no_gc (Put c i b) built = refl
+no_gc (RawGet r c i) built = refl
+no_gc (RawPut c i r) built = refl
+no_gc (Same x y) built = refl
 no_gc (Show c) built = refl
+no_gc (Addr r c) built = refl
+no_gc (SetRaw r w) built = refl
+no_gc (AddRaw r k) built = refl
+no_gc Inhibit built = refl
+no_gc Allow built = refl
 no_gc _ built = absurd built
 
 -- a thread that changes owes nothing still

@@ -1,35 +1,39 @@
 -- The events of a valid program are plain.
-use Rattle.std.proofs.Common.{◌≡◌, ℕ, ◌*◌, ◌<◌, ◌≤◌, List, [], ◌∷◌, ◌++◌, length, Option, Some, None, inl, inr, refl, ◌∙◌, subst, ap, arith}
+use Rattle.std.proofs.Common.{◌≡◌, ℕ, ◌*◌, ◌<◌, ◌≤◌, List, [], ◌∷◌, ◌++◌, length, Option, Some, None, inl, inr, refl, ◌∙◌, subst, ap, arith, set}
 use Rattle.std.proofs.lemmas.Bool.{cases_lt, false≢true}
 use Rattle.std.proofs.lemmas.List.{get_or_past, get_or_push, length_push}
 use Rattle.std.proofs.lemmas.List.Elements.{All-from_recursion}
 use Rattle.std.specs.List.{All, AllByRecursion}
-use Rattle.std.specs.Prelude.{IfSome, IsSome, slice_index_or}
+use Rattle.std.specs.Prelude.{IfSome, IsSome, slice_index_or, ◌==◌}
 use Rattle.heap_terms.specs.declared.answers.Answer.TheVariants as answers
 use Rattle.heap_terms.specs.declared.cells.Value.{Value}
 use Rattle.heap_terms.specs.declared.cells.Value.TheVariants as values
 use Rattle.heap_terms.specs.declared.commands.Command.{Command}
-use Rattle.heap_terms.specs.declared.commands.Command.TheVariants.{Fix, NewCons, Get, Put, Show}
+use Rattle.heap_terms.specs.declared.commands.Command.TheVariants.{Fix, MakeNil, Move, NewCons, Get, Put, RawGet, RawPut, Same, Show, Addr, SetRaw, AddRaw, Inhibit, Allow}
 use Rattle.heap_terms.specs.declared.events.Event.{Event}
 use Rattle.heap_terms.specs.declared.kinds.Kind.{Kind}
 use Rattle.heap_terms.specs.declared.programs.Program.{Program}
-use Rattle.heap_terms.specs.declared.limits.TheConstants.{MOST_COMMANDS}
+use Rattle.heap_terms.specs.declared.limits.TheConstants.{MOST_COMMANDS, MOST_PAGES}
 use Rattle.heap_terms.specs.Cells.{cell_value, with_cell}
 use Rattle.heap_terms.specs.Heap.{NamedHeap, start, thread_at, object_at, zero_value}
 use Rattle.heap_terms.specs.Histories.{IsNext, after, advance, Lawful, LawfulFrom, thread_of}
 use Rattle.heap_terms.specs.Layout.{page_words, size_of}
-use Rattle.heap_terms.specs.Objects.{Object, Contents, kind_of, payload_of}
+use Rattle.heap_terms.specs.Objects.{Object, Contents, WordsOf, kind_of, payload_of}
 use Rattle.heap_laws.specs.Plain.{IsPlainValue, IsPlainAnswer, IsPlain}
 use Rattle.heap_terms.specs.Outcome.{Outcome, done, answering}
 use Rattle.heap_terms.specs.Outcomes.{outcome_of}
-use Rattle.heap_terms.specs.Referents.{fields_at, with_field_at}
+use Rattle.heap_terms.specs.Outcomes.RawCommands.{taking}
+use Rattle.heap_terms.specs.Pairs.{same_value}
+use Rattle.heap_terms.specs.RawCells.{raw_value}
+use Rattle.heap_terms.specs.Referents.{fields_at, raws_at, with_field_at, with_raws, changed_at}
 use Rattle.heap_terms.specs.Regions.{committed, place_for}
-use Rattle.heap_terms.specs.Valid.{IsValid}
-use Rattle.heap_terms.specs.WellFormed.{IsWellFormed, IsLiving, HoldsLiving}
+use Rattle.heap_terms.specs.Valid.{IsValid, IsInRange}
+use Rattle.heap_terms.specs.WellFormed.{IsWellFormed, IsLiving, HoldsLiving, IsShaped}
 use Rattle.heap_laws.proofs.WellFormed.Committed.{new_object}
 use Rattle.pass_laws.proofs.Ranges.{collection_plain}
 use Rattle.heap_laws.proofs.Ranges.ObjectCount.{IsCounted, after-counted, start-counted, counted_few, event_thread}
-use Rattle.heap_laws.proofs.Outcomes.Parts.{needing_cases, indexing_cases, fields_refer}
+use Rattle.heap_laws.proofs.Outcomes.Parts.{by_test, needing_cases, indexing_cases, fields_refer, raws_refer}
+use Rattle.heap_laws.proofs.Outcomes.WordBounds.{word_below, word_plus-below}
 use Rattle.heap_laws.proofs.Events.Causes.{by_events}
 use Rattle.heap_laws.proofs.WellFormed.LivingValues.{cell_living, fields_living}
 use Rattle.heap_laws.proofs.Events.OwnThread.{built_heap}
@@ -51,20 +55,36 @@ living_plain objects values.Unbound few h = h
 living_plain objects (values.Ref name) few h = let l = name_below objects name h in omega arith
 
 pub answer_plain : (p : Program) (a : NamedHeap) (t : ℕ) (c : Command) → IsWellFormed p a → t < length p.threads → length a.objects ≤ MOST_COMMANDS →
-    IsBuilt c → IsPlainAnswer (outcome_of a t c).answer
+    p.pages ≤ MOST_PAGES → IsBuilt c → IsInRange c → IsPlainAnswer (outcome_of a t c).answer
 unfolding outcome_of
-answer_plain p a t (Fix d n) w l few built = tt
-answer_plain p a t (NewCons d x y) w l few built = tt
-answer_plain p a t (Get d x i) w l few built = needing_cases (λ (o : Outcome). IsPlainAnswer o.answer) (fields_at a.objects (cell_value a t x)) a _ tt (λ vs e.
+answer_plain p a t (Fix d n) w l few pages built r = tt
+answer_plain p a t (MakeNil d) w l few pages built r = tt
+answer_plain p a t (Move d c) w l few pages built r = tt
+answer_plain p a t (NewCons d x y) w l few pages built r = tt
+answer_plain p a t (Get d x i) w l few pages built r = needing_cases (λ (o : Outcome). IsPlainAnswer o.answer) (fields_at a.objects (cell_value a t x)) a _ tt (λ vs e.
     indexing_cases (λ (o : Outcome). IsPlainAnswer o.answer) vs i zero_value a (λ v. answering (answers.Val v) (with_cell a t d v)) tt (λ below.
     let f = fields_refer a.objects (cell_value a t x) vs e in
     let holds : HoldsLiving a.objects f.0 = subst (λ (k : Contents). HoldsLiving a.objects k) f.1.holds (w.sound.objects f.1.name f.1.object f.1.there).contents in
     living_plain a.objects (slice_index_or vs i zero_value) few (fields_living a.objects f.0 vs f.2 holds i)))
-answer_plain p a t (Put x i b) w l few built = needing_cases (λ (o : Outcome). IsPlainAnswer o.answer) (fields_at a.objects (cell_value a t x)) a _ tt (λ vs e.
+answer_plain p a t (Put x i b) w l few pages built r = needing_cases (λ (o : Outcome). IsPlainAnswer o.answer) (fields_at a.objects (cell_value a t x)) a _ tt (λ vs e.
     indexing_cases (λ (o : Outcome). IsPlainAnswer o.answer) vs i zero_value a
     (λ _. done (record a { objects = with_field_at a.objects (cell_value a t x) i (cell_value a t b) })) tt (λ below. tt))
-answer_plain p a t (Show x) w l few built = living_plain a.objects (cell_value a t x) few (cell_living p a t x w l)
-answer_plain p a t _ w l few built = absurd built
+answer_plain p a t (RawGet d x i) w l few pages built r = needing_cases (λ (o : Outcome). IsPlainAnswer o.answer) (raws_at a.objects (cell_value a t x)) a _ tt (λ ws e.
+    indexing_cases (λ (o : Outcome). IsPlainAnswer o.answer) ws i 0 a (λ word. taking a t d word) tt (λ below.
+    let f = raws_refer a.objects (cell_value a t x) ws e in
+    let shape : IsShaped (WordsOf ws) = subst (λ (k : Contents). IsShaped k) f.holds (w.sound.objects f.name f.object f.there).shape in
+    shape.1 i))
+answer_plain p a t (RawPut x i b) w l few pages built r = needing_cases (λ (o : Outcome). IsPlainAnswer o.answer) (raws_at a.objects (cell_value a t x)) a _ tt (λ ws e.
+    indexing_cases (λ (o : Outcome). IsPlainAnswer o.answer) ws i 0 a
+    (λ _. done (record a { objects = changed_at a.objects (cell_value a t x) (λ k. with_raws k (set ws i (raw_value a t b))) })) tt (λ below. tt))
+answer_plain p a t (Same x y) w l few pages built r = by_test IsPlainAnswer (same_value (cell_value a t x) (cell_value a t y)) answers.Yes answers.No (λ e. tt) (λ e. tt)
+answer_plain p a t (Show x) w l few pages built r = living_plain a.objects (cell_value a t x) few (cell_living p a t x w l)
+answer_plain p a t (Addr d x) w l few pages built r = word_below a (cell_value a t x) w.sound (omega (arith, w.pages_length, pages)) (cell_living p a t x w l)
+answer_plain p a t (SetRaw d v) w l few pages built r = tt
+answer_plain p a t (AddRaw d k) w l few pages built r = word_plus-below (raw_value a t d) k
+answer_plain p a t Inhibit w l few pages built r = tt
+answer_plain p a t Allow w l few pages built r = by_test (λ (o : Outcome). IsPlainAnswer o.answer) ((thread_at a t).inhibits == 0) _ _ (λ e. tt) (λ e. tt)
+answer_plain p a t _ w l few pages built r = absurd built
 
 -- where a new object lies in the heap after its commit
 built_inside : (p : Program) (a b : NamedHeap) (t : ℕ) (c : Command) (kind : Kind) (n : ℕ) → IsWellFormed p b →
@@ -95,7 +115,7 @@ event_plain p a e valid h next =
     (λ t c answer d later l. (
       omega arith,
       script_command p t (thread_at a t).done c valid d.command,
-      rw d.answered (answer_plain p a t c w l few (script_built p t (thread_at a t).done c valid d.command)),
+      rw d.answered (answer_plain p a t c w l few pages (script_built p t (thread_at a t).done c valid d.command) (script_command p t (thread_at a t).done c valid d.command).in_range),
     ))
     (λ t c answer d later l. (omega arith, script_command p t (thread_at a t).done c valid d.command, rw d.answered tt))
     (λ t c answer kind n seed d later l. (

@@ -34,7 +34,7 @@ loop-byte-preserved c =
     let step : 16 ^ (i + 1) ≡ 16 ^ i * 16 = rw add-one (omega arith) in
     record {
       digits = list_all_more (λ b. is_digit b 16) digits i 0 lt
-        ∙ and_from (list_all (λ b. is_digit b 16) (take i digits)) (is_digit byte 16) c.loop-byte.invariant.digits (lt-ltb (digit_value byte) 16 low);
+          ∙ and_from (list_all (λ b. is_digit b 16) (take i digits)) (is_digit byte 16) c.loop-byte.invariant.digits (lt-ltb (digit_value byte) 16 low);
       value = omega (arith, digit, more, c.loop-byte.invariant.value);
       small = omega (arith, step, digit, low, c.loop-byte.invariant.small);
     }

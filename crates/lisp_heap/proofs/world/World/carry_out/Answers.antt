@@ -9,7 +9,7 @@ use Rattle.lisp_heap.specs.WorldSound.{IsSound}
 use Rattle.lisp_heap.specs.View.{View, heap_of, next_of}
 use Rattle.lisp_heap.specs.declared.world.World.TheInside.{Inside}
 use Rattle.lisp_heap.proofs.Soundness.{heap, states_length}
-use Rattle.lisp_heap.proofs.Stepping.{did_next, did_holds, did_agrees, can_change, state_room, sound_after, happens_after, agrees_after}
+use Rattle.lisp_heap.proofs.Stepping.{did_next, did_holds, did_agrees, can_change, states_count, change_room, sound_after, happens_after, agrees_after}
 use Rattle.lisp_heap.proofs.WordReading.{thread_in}
 use Rattle.lisp_heap.proofs.world.World.carry_out.Goals as goal
 
@@ -21,11 +21,20 @@ apply-requires c =
     subst (λ (w : View). command_at w.program (heap_of w) c.args.t ≡ Some c.args.command) (sym c.self.view_is) c.requires.command in
     let simple = subst (λ (w : View). next_of w c.args.t ≡ nexts.Simple) (sym c.self.view_is) c.requires.simple in
     let is = subst (λ (w : View). IsPlan (heap_of w) c.args.t c.args.command c.args.plan.answer c.args.plan.change) (sym c.self.view_is) c.requires.plan in
-    record { cells = can_change s c.self.invariant c.args.t c.args.command c.args.plan.answer c.args.plan.change lt at simple is }
+    record {
+      cells = can_change s c.self.invariant c.args.t c.args.command c.args.plan.answer c.args.plan.change lt at simple is;
+      thread = omega (arith, lt, states_length s c.self.invariant);
+    }
 
 pub advance-requires-clause-thread : goal.advance-requires-clause-thread
 advance-requires-clause-thread c =
-    omega (arith, thread_in c.self.inside c.args.self.now c.self.view_is c.args.t c.requires.thread, states_length c.self.inside c.self.invariant)
+    let s = c.self.inside in
+    let lt = thread_in s c.args.self.now c.self.view_is c.args.t c.requires.thread in
+    let at : command_at s.program (heap s) c.args.t ≡ Some c.args.command =
+    subst (λ (w : View). command_at w.program (heap_of w) c.args.t ≡ Some c.args.command) (sym c.self.view_is) c.requires.command in
+    let simple = subst (λ (w : View). next_of w c.args.t ≡ nexts.Simple) (sym c.self.view_is) c.requires.simple in
+    let is = subst (λ (w : View). IsPlan (heap_of w) c.args.t c.args.command c.args.plan.answer c.args.plan.change) (sym c.self.view_is) c.requires.plan in
+    rw c.apply.ensures.states (omega (arith, lt, states_count s c.self.invariant c.args.t c.args.command c.args.plan.answer c.args.plan.change lt at simple is))
 
 pub advance-requires-clause-room : goal.advance-requires-clause-room
 advance-requires-clause-room c =
@@ -33,7 +42,9 @@ advance-requires-clause-room c =
     let lt = thread_in s c.args.self.now c.self.view_is c.args.t c.requires.thread in
     let at : command_at s.program (heap s) c.args.t ≡ Some c.args.command =
     subst (λ (w : View). command_at w.program (heap_of w) c.args.t ≡ Some c.args.command) (sym c.self.view_is) c.requires.command in
-    state_room s c.self.invariant c.args.t c.args.command lt at
+    let simple = subst (λ (w : View). next_of w c.args.t ≡ nexts.Simple) (sym c.self.view_is) c.requires.simple in
+    let is = subst (λ (w : View). IsPlan (heap_of w) c.args.t c.args.command c.args.plan.answer c.args.plan.change) (sym c.self.view_is) c.requires.plan in
+    rw c.apply.ensures.states (change_room s c.self.invariant c.args.t c.args.command c.args.plan.answer c.args.plan.change lt at simple is)
 
 -- the fields after the call
 abbrev made : goal.After-advance → Inside
@@ -66,7 +77,7 @@ sound_made c =
       states = c.advance.new.self;
       commits = s.commits;
     }) =
-    rw (c.apply.ensures.cells, c.apply.ensures.words, c.advance.ensures)
+    rw (c.apply.ensures.cells, c.apply.ensures.words, c.advance.ensures, c.apply.ensures.states)
     (did_holds s c.self.invariant c.args.t c.args.command c.args.plan.answer c.args.plan.change lt at simple is) in
     sound_after s (made c) e c.self.invariant refl c.in_ok-push.ensures.items
     (did_next s c.self.invariant c.args.t c.args.command c.args.plan.answer c.args.plan.change lt at simple is) held

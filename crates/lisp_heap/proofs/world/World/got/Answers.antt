@@ -1,69 +1,70 @@
--- `get` reads a field of a cons.
-use Rattle.std.proofs.Common.{◌≡◌, ℕ, zero, suc, ◌+◌, ◌<◌, arith, subst, ◌∙◌, sym}
-use Rattle.std.specs.Prelude.{slice_index}
-use Rattle.heap_terms.specs.declared.cells.Value.{Value}
+-- `get` reads a field.
+use Rattle.std.proofs.Common.{◌≡◌, ◌+◌, ◌<◌, ◌≤◌, ℕ, arith, subst, sym, refl, ap, ◌∙◌, get_or}
 use Rattle.heap_terms.specs.declared.commands.Command.TheVariants as commands
 use Rattle.heap_terms.specs.Cells.{cell_value}
-use Rattle.heap_terms.specs.WellFormed.{IsLiving}
-use Rattle.heap_terms.specs.Spelling.{word_of}
+use Rattle.heap_terms.specs.Heap.{zero_value}
+use Rattle.heap_terms.specs.Objects.{kind_of}
+use Rattle.lisp_heap.specs.LivingWords.{header_words}
 use Rattle.lisp_heap.specs.Plan.{IsPlan}
-use Rattle.lisp_heap.specs.View.{View, heap_of}
+use Rattle.lisp_heap.specs.View.{heap_of}
 use Rattle.lisp_heap.specs.declared.plan.Plan.{Plan}
-use Rattle.lisp_heap.specs.declared.world.World.TheInside.{Inside}
-use Rattle.lisp_heap.proofs.Plans.{got_none, got_out, got_is, field_of}
-use Rattle.lisp_heap.proofs.WordReading.{cell_lives, cons_words_of, ConsWords}
+use Rattle.lisp_heap.specs.declared.referents.Span.{Span}
+use Rattle.lisp_heap.proofs.Plans.{fields_are, got_none, got_out, got_is}
+use Rattle.lisp_heap.proofs.SlotChanges.{fields_payload}
+use Rattle.lisp_heap.proofs.Spans.{payload_inside, field_at}
+use Rattle.lisp_heap.proofs.WordReading.{cell_lives, cell_word_of}
 use Rattle.lisp_heap.proofs.world.World.got.Goals as goal
 
--- the word at a field of a cons is that of the field
-at_field : (s : Inside) (w : View) (v : Value) (index i : ℕ) (k : ConsWords s w v index) → i < 2 →
-    (slice_index s.space (index + i) ≡ word_of (heap_of w).objects (field_of k.cons i)) × IsLiving (heap_of w).objects (field_of k.cons i)
-at_field s w v index zero k low =
-    let here : index + 0 ≡ index = omega arith in
-    (subst (λ (n : ℕ). slice_index s.space n ≡ word_of (heap_of w).objects k.cons.first) (sym here) k.first, k.first_lives)
-at_field s w v index (suc zero) k low = (k.second, k.second_lives)
-at_field s w v index (suc (suc i)) k low = absurd (omega arith)
+pub fields-requires : goal.fields-requires
+fields-requires c = cell_word_of c.self.inside c.args.self.now c.self.invariant c.self.view_is c.args.t c.args.c c.cell-of.result c.requires.thread c.cell-of.ensures
 
 pub returns-in_default : goal.returns-in_default
 returns-in_default c =
     let living = cell_lives c.self.inside c.args.self.now c.self.invariant c.self.view_is c.args.t c.args.c c.requires.thread in
-    let none = c.in_default.ensures (cell_value (heap_of c.args.self.now) c.args.t c.args.c) living c.cell-of.ensures in
     subst (λ (o : Plan). IsPlan (heap_of c.args.self.now) c.args.t (commands.Get c.args.d c.args.c c.args.i) o.answer o.change) (sym c.refused.ensures)
-    (got_none (heap_of c.args.self.now) c.args.t c.args.d c.args.c c.args.i none)
+    (got_none (heap_of c.args.self.now) c.args.t c.args.d c.args.c c.args.i (c.in_default.ensures (cell_value (heap_of c.args.self.now) c.args.t c.args.c) living c.cell-of.ensures))
 
-pub returns-then-i-ge2 : goal.returns-then-i-ge2
-returns-then-i-ge2 c =
+pub returns-then-i-fields : goal.returns-then-i-fields
+returns-then-i-fields c =
     let living = cell_lives c.self.inside c.args.self.now c.self.invariant c.self.view_is c.args.t c.args.c c.requires.thread in
-    let k = c.in-Some.ensures (cell_value (heap_of c.args.self.now) c.args.t c.args.c) living c.cell-of.ensures in
-    subst (λ (o : Plan). IsPlan (heap_of c.args.self.now) c.args.t (commands.Get c.args.d c.args.c c.args.i) o.answer o.change) (sym c.refused-then-i-ge2.ensures)
-    (got_out (heap_of c.args.self.now) c.args.t c.args.d c.args.c c.args.i c.in-Some.index k c.if-i-ge2.true)
+    let found = c.in-Some.ensures (cell_value (heap_of c.args.self.now) c.args.t c.args.c) living c.cell-of.ensures in
+    let span : Span = record { first = c.in-Some.fields.first; count = c.in-Some.fields.count } in
+    let o = (found.0).object in
+    subst (λ (o : Plan). IsPlan (heap_of c.args.self.now) c.args.t (commands.Get c.args.d c.args.c c.args.i) o.answer o.change) (sym c.refused-then-i-fields.ensures)
+    (got_out (heap_of c.args.self.now) c.args.t c.args.d c.args.c c.args.i (found.1) (fields_are (heap_of c.args.self.now).objects (cell_value (heap_of c.args.self.now) c.args.t c.args.c) o (found.1) (found.0).refers found.2)
+    (omega (arith, (found.0).count, fields_payload o.contents (found.1) found.2, c.if-i-fields.true)))
 
-pub overflow_add-index : goal.overflow_add-index
-overflow_add-index c =
+pub overflow_add-fields : goal.overflow_add-fields
+overflow_add-fields c =
     let living = cell_lives c.self.inside c.args.self.now c.self.invariant c.self.view_is c.args.t c.args.c c.requires.thread in
-    let k = cons_words_of c.self.inside c.args.self.now c.self.invariant c.self.view_is (cell_value (heap_of c.args.self.now) c.args.t c.args.c) c.in-Some.index
-    (c.in-Some.ensures (cell_value (heap_of c.args.self.now) c.args.t c.args.c) living c.cell-of.ensures) in
-    omega (arith, k.small, c.if-i-ge2.false)
+    let found = c.in-Some.ensures (cell_value (heap_of c.args.self.now) c.args.t c.args.c) living c.cell-of.ensures in
+    let span : Span = record { first = c.in-Some.fields.first; count = c.in-Some.fields.count } in
+    let inside = payload_inside c.self.inside c.args.self.now c.self.invariant c.self.view_is (cell_value (heap_of c.args.self.now) c.args.t c.args.c) span (found.0) in
+    omega (arith, inside.inside, inside.small, c.if-i-fields.false)
 
 pub read-word-requires : goal.read-word-requires
 read-word-requires c =
     let living = cell_lives c.self.inside c.args.self.now c.self.invariant c.self.view_is c.args.t c.args.c c.requires.thread in
-    let k = cons_words_of c.self.inside c.args.self.now c.self.invariant c.self.view_is (cell_value (heap_of c.args.self.now) c.args.t c.args.c) c.in-Some.index
-    (c.in-Some.ensures (cell_value (heap_of c.args.self.now) c.args.t c.args.c) living c.cell-of.ensures) in
-    omega (arith, k.inside, c.if-i-ge2.false)
+    let found = c.in-Some.ensures (cell_value (heap_of c.args.self.now) c.args.t c.args.c) living c.cell-of.ensures in
+    let span : Span = record { first = c.in-Some.fields.first; count = c.in-Some.fields.count } in
+    let inside = payload_inside c.self.inside c.args.self.now c.self.invariant c.self.view_is (cell_value (heap_of c.args.self.now) c.args.t c.args.c) span (found.0) in
+    omega (arith, inside.inside, c.if-i-fields.false)
 
 pub value_of-requires : goal.value_of-requires
 value_of-requires c =
     let living = cell_lives c.self.inside c.args.self.now c.self.invariant c.self.view_is c.args.t c.args.c c.requires.thread in
-    let k = cons_words_of c.self.inside c.args.self.now c.self.invariant c.self.view_is (cell_value (heap_of c.args.self.now) c.args.t c.args.c) c.in-Some.index
-    (c.in-Some.ensures (cell_value (heap_of c.args.self.now) c.args.t c.args.c) living c.cell-of.ensures) in
-    let field = at_field c.self.inside c.args.self.now (cell_value (heap_of c.args.self.now) c.args.t c.args.c) c.in-Some.index c.args.i k c.if-i-ge2.false in
-    record { value = field_of k.cons c.args.i; living = field.1; word_is = c.read-word.ensures ∙ field.0 }
+    let found = c.in-Some.ensures (cell_value (heap_of c.args.self.now) c.args.t c.args.c) living c.cell-of.ensures in
+    let span : Span = record { first = c.in-Some.fields.first; count = c.in-Some.fields.count } in
+    let field = field_at c.self.inside c.args.self.now c.self.invariant c.self.view_is (cell_value (heap_of c.args.self.now) c.args.t c.args.c) span (found.1) c.args.i (found.0) found.2 c.if-i-fields.false in
+    record { value = get_or (found.1) c.args.i zero_value; living = field.living; word_is = c.read-word.ensures ∙ field.word_is }
 
 pub returns : goal.returns
 returns c =
     let living = cell_lives c.self.inside c.args.self.now c.self.invariant c.self.view_is c.args.t c.args.c c.requires.thread in
-    let k = cons_words_of c.self.inside c.args.self.now c.self.invariant c.self.view_is (cell_value (heap_of c.args.self.now) c.args.t c.args.c) c.in-Some.index
-    (c.in-Some.ensures (cell_value (heap_of c.args.self.now) c.args.t c.args.c) living c.cell-of.ensures) in
-    let field = at_field c.self.inside c.args.self.now (cell_value (heap_of c.args.self.now) c.args.t c.args.c) c.in-Some.index c.args.i k c.if-i-ge2.false in
-    got_is (heap_of c.args.self.now) c.args.t c.args.d c.args.c c.args.i c.in-Some.index c.read-word.result c.value_of.result k.cons c.if-i-ge2.false c.requires.d
-    (c.value_of.ensures (field_of k.cons c.args.i) field.1 (c.read-word.ensures ∙ field.0)) (c.read-word.ensures ∙ field.0)
+    let found = c.in-Some.ensures (cell_value (heap_of c.args.self.now) c.args.t c.args.c) living c.cell-of.ensures in
+    let span : Span = record { first = c.in-Some.fields.first; count = c.in-Some.fields.count } in
+    let field = field_at c.self.inside c.args.self.now c.self.invariant c.self.view_is (cell_value (heap_of c.args.self.now) c.args.t c.args.c) span (found.1) c.args.i (found.0) found.2 c.if-i-fields.false in
+    let value = get_or (found.1) c.args.i zero_value in
+    got_is (heap_of c.args.self.now) c.args.t c.args.d c.args.c c.args.i c.read-word.result c.value_of.result (found.1)
+    (fields_are (heap_of c.args.self.now).objects (cell_value (heap_of c.args.self.now) c.args.t c.args.c) (found.0).object (found.1) (found.0).refers found.2) field.low c.requires.d
+    (c.value_of.ensures value field.living (c.read-word.ensures ∙ field.word_is)) (c.read-word.ensures ∙ field.word_is)

@@ -1,0 +1,59 @@
+-- `rawget` reads a raw word.
+use Rattle.std.proofs.Common.{◌≡◌, ◌+◌, ◌<◌, ◌≤◌, ℕ, arith, subst, sym, refl, ap, ◌∙◌, get_or}
+use Rattle.heap_terms.specs.declared.commands.Command.TheVariants as commands
+use Rattle.heap_terms.specs.Cells.{cell_value}
+use Rattle.heap_terms.specs.Heap.{zero_value}
+use Rattle.heap_terms.specs.Objects.{kind_of}
+use Rattle.lisp_heap.specs.LivingWords.{header_words}
+use Rattle.lisp_heap.specs.Plan.{IsPlan}
+use Rattle.lisp_heap.specs.View.{heap_of}
+use Rattle.lisp_heap.specs.declared.plan.Plan.{Plan}
+use Rattle.lisp_heap.specs.declared.referents.Span.{Span}
+use Rattle.lisp_heap.proofs.Plans.{raws_are, raw_got_none, raw_got_out, raw_got_is}
+use Rattle.lisp_heap.proofs.Spans.{payload_inside, raw_at, raws_payload}
+use Rattle.lisp_heap.proofs.WordReading.{cell_lives, cell_word_of}
+use Rattle.lisp_heap.proofs.world.World.raw_got.Goals as goal
+
+pub raws-requires : goal.raws-requires
+raws-requires c = cell_word_of c.self.inside c.args.self.now c.self.invariant c.self.view_is c.args.t c.args.c c.cell-of.result c.requires.thread c.cell-of.ensures
+
+pub returns-in_default : goal.returns-in_default
+returns-in_default c =
+    let living = cell_lives c.self.inside c.args.self.now c.self.invariant c.self.view_is c.args.t c.args.c c.requires.thread in
+    subst (λ (o : Plan). IsPlan (heap_of c.args.self.now) c.args.t (commands.RawGet c.args.r c.args.c c.args.i) o.answer o.change) (sym c.refused.ensures)
+    (raw_got_none (heap_of c.args.self.now) c.args.t c.args.r c.args.c c.args.i (c.in_default.ensures (cell_value (heap_of c.args.self.now) c.args.t c.args.c) living c.cell-of.ensures))
+
+pub returns-then-i-words : goal.returns-then-i-words
+returns-then-i-words c =
+    let living = cell_lives c.self.inside c.args.self.now c.self.invariant c.self.view_is c.args.t c.args.c c.requires.thread in
+    let found = c.in-Some.ensures (cell_value (heap_of c.args.self.now) c.args.t c.args.c) living c.cell-of.ensures in
+    let span : Span = record { first = c.in-Some.words.first; count = c.in-Some.words.count } in
+    let o = (found.0).object in
+    subst (λ (o : Plan). IsPlan (heap_of c.args.self.now) c.args.t (commands.RawGet c.args.r c.args.c c.args.i) o.answer o.change) (sym c.refused-then-i-words.ensures)
+    (raw_got_out (heap_of c.args.self.now) c.args.t c.args.r c.args.c c.args.i (found.1) (raws_are (heap_of c.args.self.now).objects (cell_value (heap_of c.args.self.now) c.args.t c.args.c) o (found.1) (found.0).refers found.2)
+    (omega (arith, (found.0).count, raws_payload o.contents (found.1) found.2, c.if-i-words.true)))
+
+pub overflow_add-words : goal.overflow_add-words
+overflow_add-words c =
+    let living = cell_lives c.self.inside c.args.self.now c.self.invariant c.self.view_is c.args.t c.args.c c.requires.thread in
+    let found = c.in-Some.ensures (cell_value (heap_of c.args.self.now) c.args.t c.args.c) living c.cell-of.ensures in
+    let span : Span = record { first = c.in-Some.words.first; count = c.in-Some.words.count } in
+    let inside = payload_inside c.self.inside c.args.self.now c.self.invariant c.self.view_is (cell_value (heap_of c.args.self.now) c.args.t c.args.c) span (found.0) in
+    omega (arith, inside.inside, inside.small, c.if-i-words.false)
+
+pub read-word-requires : goal.read-word-requires
+read-word-requires c =
+    let living = cell_lives c.self.inside c.args.self.now c.self.invariant c.self.view_is c.args.t c.args.c c.requires.thread in
+    let found = c.in-Some.ensures (cell_value (heap_of c.args.self.now) c.args.t c.args.c) living c.cell-of.ensures in
+    let span : Span = record { first = c.in-Some.words.first; count = c.in-Some.words.count } in
+    let inside = payload_inside c.self.inside c.args.self.now c.self.invariant c.self.view_is (cell_value (heap_of c.args.self.now) c.args.t c.args.c) span (found.0) in
+    omega (arith, inside.inside, c.if-i-words.false)
+
+pub returns : goal.returns
+returns c =
+    let living = cell_lives c.self.inside c.args.self.now c.self.invariant c.self.view_is c.args.t c.args.c c.requires.thread in
+    let found = c.in-Some.ensures (cell_value (heap_of c.args.self.now) c.args.t c.args.c) living c.cell-of.ensures in
+    let span : Span = record { first = c.in-Some.words.first; count = c.in-Some.words.count } in
+    let raw = raw_at c.self.inside c.args.self.now c.self.invariant c.self.view_is (cell_value (heap_of c.args.self.now) c.args.t c.args.c) span (found.1) c.args.i (found.0) found.2 c.if-i-words.false in
+    raw_got_is (heap_of c.args.self.now) c.args.t c.args.r c.args.c c.args.i c.read-word.result (found.1)
+    (raws_are (heap_of c.args.self.now).objects (cell_value (heap_of c.args.self.now) c.args.t c.args.c) (found.0).object (found.1) (found.0).refers found.2) raw.low c.requires.r (c.read-word.ensures ∙ raw.word_is)
