@@ -1,35 +1,27 @@
 -- Each answer is read from the fields that it is spelled by, and from no others.
-use Rattle.std.proofs.Common.{◌≡◌, ℕ, ℤ, zero, suc, ◌^◌, ◌-◌, ◌+◌, ◌<◌, ◌≤◌, Bool, true, false, ◌&&◌, eqb, leb, cond, List, [], ◌∷◌, ◌++◌, length, get_or, map, Option, Some, None, refl, ap, sym, ◌∙◌, subst, arith, inl, inr}
-use Rattle.std.specs.Fmt.{decimal, signed_decimal}
-use Rattle.std.specs.List.{AllByRecursion, list_all}
+use Rattle.std.proofs.Common.{◌≡◌, ℕ, zero, suc, ◌^◌, ◌<◌, ◌≤◌, true, eqb, List, [], ◌∷◌, ◌++◌, length, get_or, map, Option, Some, None, refl, ap, sym, ◌∙◌, subst, arith, inl, inr}
+use Rattle.std.specs.Fmt.{decimal}
+use Rattle.std.specs.List.{AllByRecursion}
 use Rattle.std.specs.Prelude.{codes}
 use Rattle.std.specs.Str.{bytes_eq}
-use Rattle.std.proofs.lemmas.Bool.{cases_Bool, eqb-true, ne_eqb, eq-eqb, le-leb, lt-leb}
-use Rattle.std.proofs.lemmas.Option.{some_pair_parts, same_Some, cond_some}
+use Rattle.std.proofs.lemmas.Bool.{cases_Bool, eqb-true}
+use Rattle.std.proofs.lemmas.Option.{same_Some, cond_some}
 use Rattle.std.proofs.lemmas.Slice.Eq.{bytes_eq-Decides}
 use Rattle.heap_terms.specs.declared.answers.Answer.{Answer}
 use Rattle.heap_terms.specs.declared.answers.Answer.TheVariants as answers
 use Rattle.heap_terms.specs.declared.answers.Item.{Item}
 use Rattle.heap_terms.specs.declared.answers.PageView.TheVariants as views
-use Rattle.heap_terms.specs.declared.cells.Value.{Value}
-use Rattle.heap_terms.specs.declared.cells.Value.TheVariants as values
-use Rattle.heap_terms.specs.declared.kinds.PageType.{PageType}
 use Rattle.heap_terms.specs.Text.{name_text, index_text, value_text, word_text, type_text, refusal_text, item_text}
-use Rattle.journal_text.specs.declared.parsing.openings.Filling.{Filling}
-use Rattle.journal_text.specs.declared.parsing.openings.Filling.TheVariants as fillings
-use Rattle.journal_text.specs.declared.parsing.openings.Opening.{Opening}
-use Rattle.journal_text.specs.declared.parsing.openings.Opening.TheVariants as openings
-use Rattle.journal_text.specs.AnswerReading.{ending, opening_text, an_opening, a_number_64, cut_at, item_of, an_item, an_object, all_of, the_word, a_filling, filling_text, some_ran, read_live, read_ran, three_numbers, read_stat, read_small, read_large, read_filled, read_page, read_worded, second_is_x, read_numeric, placed, read_named, read_opened, read_answer}
-use Rattle.journal_text.specs.FieldReading.{a_number, a_fixnum, a_word, a_name, an_index, a_value, a_generation}
-use Rattle.journal_text.specs.LineReading.{◌>>=◌, first, a_number_32, a_count}
-use Rattle.journal_text.specs.Ranges.{IsName, IsIndex, IsValue, IsItem, IsItemOf, IsPage, AreIds, IsAnswer, IsNumber32}
+use Rattle.journal_text.specs.AnswerReading.{ending, a_number_64, cut_at, item_of, an_item, an_object, all_of, the_word, a_filling, filling_text}
+use Rattle.journal_text.specs.FieldReading.{a_number, a_name}
+use Rattle.journal_text.specs.LineReading.{◌>>=◌, a_count}
+use Rattle.journal_text.specs.Ranges.{IsName, IsIndex, IsItem, IsItemOf}
 use Rattle.journal_text.proofs.Binding.{bind_some}
 use Rattle.journal_text.proofs.Cuts.{cut_sound, cut_again}
-use Rattle.journal_text.proofs.Exact.{IsExact, lettered, number_32_exact, number_exact, value_exact, generation_exact, name_exact, index_exact, fixnum_exact, word_exact, type_exact, Fronted, signed_front}
+use Rattle.journal_text.proofs.Exact.{IsExact, lettered, number_exact, name_exact}
 use Rattle.journal_text.proofs.Numerals.{number_sound, number_complete, count_sound, count_complete, decimal_byte, decimal_digits}
-use Rattle.journal_text.proofs.Sequences.{first_sound}
-use Rattle.journal_text.proofs.Words.{filling_again, opening_again}
-use Rattle.journal_text.proofs.WordsFound.{filling_found, opening_found}
+use Rattle.journal_text.proofs.Words.{filling_again}
+use Rattle.journal_text.proofs.WordsFound.{filling_found}
 
 -- the fields of an answer
 abbrev pub item_field : Item → List ℕ

@@ -1,17 +1,13 @@
 -- Lines are cut at their ends in one way, and the lines of events tell them.
-use Rattle.std.proofs.Common.{◌≡◌, ◌≢◌, ℕ, zero, suc, ◌+◌, ◌^◌, ◌<◌, ◌≤◌, Bool, true, false, leb, List, [], ◌∷◌, ◌++◌, length, map, Option, Some, None, refl, ap, sym, ◌∙◌, subst, arith, append_assoc, append-nil, length-append}
+use Rattle.std.proofs.Common.{◌≡◌, ℕ, ◌<◌, true, List, [], ◌∷◌, ◌++◌, length, map, Option, Some, None, refl, ap, sym, ◌∙◌, arith, append_assoc, append-nil, length-append}
 use Rattle.std.specs.List.{AllByRecursion, flat_map, list_all, slice_split}
-use Rattle.std.specs.Prelude.{codes}
 use Rattle.std.proofs.lemmas.Bool.{leb-true, and_parts}
 use Rattle.std.proofs.lemmas.Grind.{flat_map-append}
 use Rattle.std.proofs.lemmas.Option.{same_Some}
-use Rattle.heap_terms.specs.declared.events.Cull.{Cull}
 use Rattle.heap_terms.specs.declared.events.Event.{Event}
 use Rattle.heap_terms.specs.declared.events.Event.TheVariants as events
 use Rattle.heap_terms.specs.declared.events.PassRecord.{PassRecord}
-use Rattle.heap_terms.specs.declared.events.PinAt.{PinAt}
-use Rattle.heap_terms.specs.declared.events.Placing.{Placing}
-use Rattle.heap_terms.specs.Text.{event_text, field, index_text, journal_text, line, name_text, number_field, pass_text, placing_text, value_text}
+use Rattle.heap_terms.specs.Text.{event_text, journal_text, pass_text}
 use Rattle.journal_text.specs.declared.parsing.pieces.Piece.{Piece}
 use Rattle.journal_text.specs.declared.parsing.pieces.Piece.TheVariants as pieces
 use Rattle.journal_text.specs.Builder.{State, done, run, start}

@@ -1,5 +1,5 @@
 -- Each reader of a field is the inverse of the text beside it.
-use Rattle.std.proofs.Common.{◌≡◌, ℕ, ℤ, pos, negsuc, zero, suc, ◌+◌, ◌-◌, ◌*◌, ◌^◌, ◌<◌, ◌≤◌, Bool, true, false, eqb, List, [], ◌∷◌, ◌++◌, length, get_or, Option, Some, None, option_map, refl, ap, sym, ◌∙◌, subst, arith, inl, inr}
+use Rattle.std.proofs.Common.{◌≡◌, ℕ, ℤ, pos, negsuc, suc, ◌^◌, ◌<◌, ◌≤◌, true, false, eqb, List, [], ◌∷◌, length, get_or, Option, Some, option_map, refl, ap, sym, ◌∙◌, subst, arith, inl, inr}
 use Rattle.std.specs.Fmt.{decimal, signed_decimal}
 use Rattle.std.proofs.lemmas.Bool.{cases_Bool, eqb-true, ne_eqb, eq-eqb}
 use Rattle.heap_terms.specs.declared.cells.Cell.{Cell}
@@ -7,17 +7,15 @@ use Rattle.heap_terms.specs.declared.cells.Cell.TheVariants as cells
 use Rattle.heap_terms.specs.declared.cells.Raw.{Raw}
 use Rattle.heap_terms.specs.declared.cells.Value.{Value}
 use Rattle.heap_terms.specs.declared.cells.Value.TheVariants as values
-use Rattle.heap_terms.specs.declared.kinds.PageType.{PageType}
-use Rattle.heap_terms.specs.declared.kinds.Weakness.{Weakness}
 use Rattle.heap_terms.specs.Text.{cell_text, name_text, index_text, value_text, word_text, type_text, weakness_text}
 use Rattle.heap_terms.specs.Valid.{IsCell, IsRaw, IsFixnum, IsSigned}
-use Rattle.journal_text.specs.FieldReading.{a_number, a_signed, a_cell, a_raw, raw, behind, a_name, an_index, a_generation, a_fixnum, a_value}
-use Rattle.journal_text.specs.LineReading.{◌>>=◌, a_count, a_long, an_element, a_capacity, a_number_32, a_collected, a_generation_number}
+use Rattle.journal_text.specs.FieldReading.{a_number, a_cell, a_raw, raw, behind, a_name, an_index, a_generation, a_fixnum, a_value}
+use Rattle.journal_text.specs.LineReading.{a_count, a_long, an_element, a_capacity, a_number_32, a_collected, a_generation_number}
 use Rattle.journal_text.specs.Ranges.{IsName, IsIndex, IsValue}
 use Rattle.journal_text.specs.FieldReading.{a_weakness, a_type, a_word}
 use Rattle.journal_text.proofs.Words.{weakness_again, type_again}
 use Rattle.journal_text.proofs.WordsFound.{weakness_found, type_found}
-use Rattle.journal_text.proofs.Binding.{bind_some, map_some}
+use Rattle.journal_text.proofs.Binding.{map_some}
 use Rattle.std.specs.List.{list_all}
 use Rattle.std.specs.Prelude.{codes}
 use Rattle.std.specs.Str.{bytes_eq}

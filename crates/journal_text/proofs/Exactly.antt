@@ -1,5 +1,5 @@
 -- A journal is read as the events that it tells.
-use Rattle.std.proofs.Common.{◌≡◌, ℕ, List, ◌++◌, refl, ap, sym, ◌∙◌, Result, Ok, Err, Vec, Global, append_assoc}
+use Rattle.std.proofs.Common.{◌≡◌, ℕ, List, refl, sym, ◌∙◌, Result, Ok, Err, Vec, Global, append_assoc}
 use Rattle.std.specs.Prelude.{IfOk, IfErr, MatchResult}
 use Rattle.heap_terms.specs.declared.events.Event.{Event}
 use Rattle.heap_terms.specs.declared.faults.Why.{Why}

@@ -1,8 +1,7 @@
 -- Fields joined by single spaces, and cut at them again.
-use Rattle.std.proofs.Common.{◌≡◌, ℕ, zero, suc, ◌+◌, ◌<◌, ◌≤◌, Bool, true, false, leb, eqb, ◌&&◌, cond, List, [], ◌∷◌, ◌++◌, length, refl, ap, sym, ◌∙◌, arith, inl, inr, append_assoc, append-nil}
-use Rattle.std.specs.List.{AllByRecursion, flat_map, list_all, slice_split, onto_first, All}
+use Rattle.std.proofs.Common.{◌≡◌, ℕ, Bool, true, false, leb, List, [], ◌∷◌, ◌++◌, refl, ap, sym, ◌∙◌, arith, inl, inr, append-nil}
+use Rattle.std.specs.List.{AllByRecursion, flat_map, list_all, slice_split}
 use Rattle.std.proofs.lemmas.Bool.{cases_Bool, eqb-true, ne_eqb, leb-true, le-leb, and_parts}
-use Rattle.std.proofs.lemmas.List.Splits.{slice_split_at, slice_split_none}
 use Rattle.heap_terms.specs.Text.{field}
 use Rattle.journal_text.specs.Cursors.{is_space}
 

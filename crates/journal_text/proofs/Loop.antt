@@ -1,14 +1,14 @@
 -- What one more line makes of the reader, and what it stops at.
-use Rattle.std.proofs.Common.{◌≡◌, ℕ, suc, ◌+◌, ◌^◌, ◌<◌, ◌≤◌, List, [], ◌∷◌, ◌++◌, length, Option, Some, None, refl, ap, arith, length-append}
+use Rattle.std.proofs.Common.{◌≡◌, ℕ, ◌^◌, ◌<◌, ◌≤◌, List, ◌∷◌, ◌++◌, length, ap, arith, length-append}
 use Rattle.std.specs.List.{slice_split}
 use Rattle.journal_text.specs.declared.parsing.faults.LineFault.{LineFault}
 use Rattle.journal_text.specs.declared.parsing.faults.LineFault.TheVariants as faults
-use Rattle.journal_text.specs.Builder.{Adds, AddsLine, State, add}
+use Rattle.journal_text.specs.Builder.{AddsLine, State}
 use Rattle.journal_text.specs.Cursors.{is_space}
 use Rattle.journal_text.specs.Journals.{HasNoLf, IsFault}
 use Rattle.journal_text.specs.Numbering.{fault_at}
 use Rattle.journal_text.specs.PieceReading.{read_line}
-use Rattle.std.specs.Prelude.{Result, Ok, Err}
+use Rattle.std.specs.Prelude.{Err}
 use Rattle.journal_text.proofs.Prefixes.{Reading, reading_bad, reading_short}
 
 pub line_fault : (bytes rest content after : List ℕ) (number : ℕ) (s t : State) (fault : LineFault) → length bytes < 2 ^ 32 → rest ≡ content ++ (10 ∷ after) → HasNoLf content →

@@ -1,19 +1,15 @@
 -- The lines of events are taken one after the other, and give the events.
-use Rattle.std.proofs.Common.{◌≡◌, ℕ, zero, suc, ◌+◌, ◌^◌, ◌<◌, ◌≤◌, Bool, true, false, ◌&&◌, eqb, leb, cond, List, [], ◌∷◌, ◌++◌, length, map, Option, Some, None, refl, ap, sym, ◌∙◌, arith, append_assoc, append-nil, length-append}
-use Rattle.std.specs.List.{AllByRecursion, flat_map}
+use Rattle.std.proofs.Common.{◌≡◌, ℕ, ◌≤◌, true, eqb, leb, cond, List, [], ◌∷◌, ◌++◌, length, map, Option, Some, None, refl, ap, sym, ◌∙◌, arith, append_assoc, append-nil}
+use Rattle.std.specs.List.{flat_map}
 use Rattle.std.proofs.lemmas.Bool.{eq-eqb, le-leb}
-use Rattle.std.proofs.lemmas.Grind.{flat_map-append}
-use Rattle.heap_terms.specs.declared.events.Cull.{Cull}
 use Rattle.heap_terms.specs.declared.events.Event.{Event}
 use Rattle.heap_terms.specs.declared.events.Event.TheVariants as events
 use Rattle.heap_terms.specs.declared.events.PassRecord.{PassRecord}
-use Rattle.heap_terms.specs.declared.events.PinAt.{PinAt}
-use Rattle.heap_terms.specs.declared.events.Placing.{Placing}
 use Rattle.journal_text.specs.declared.parsing.pieces.Piece.{Piece}
 use Rattle.journal_text.specs.declared.parsing.pieces.Piece.TheVariants as pieces
 use Rattle.journal_text.specs.declared.parsing.stages.Stage.{Stage}
 use Rattle.journal_text.specs.declared.parsing.stages.Stage.TheVariants as stages
-use Rattle.journal_text.specs.Builder.{State, add, between, closed, closed_by, collecting, done, fresh, is_open, rank, run, start, swept, with_breaks, with_culls, with_freed, with_moves, with_pass, with_pins, with_queued, with_swept}
+use Rattle.journal_text.specs.Builder.{State, add, between, closed, collecting, done, fresh, is_open, rank, run, start, swept, with_breaks, with_culls, with_freed, with_moves, with_pass, with_pins, with_queued}
 use Rattle.journal_text.specs.LineReading.{◌>>=◌}
 
 -- the lines of a pass, of an event and of a journal

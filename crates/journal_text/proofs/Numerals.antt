@@ -1,17 +1,16 @@
 -- Numbers and their one spelling.
-use Rattle.std.proofs.Common.{◌≡◌, ℕ, ℤ, pos, negsuc, zero, suc, ◌+◌, ◌-◌, ◌*◌, ◌^◌, ◌<◌, ◌≤◌, Bool, true, false, ltb, leb, eqb, not, ◌&&◌, ◌||◌, cond, List, [], ◌∷◌, length, get_or, Option, Some, None, option_map, refl, ap, sym, ◌∙◌, subst, arith, inl, inr}
-use Rattle.std.specs.Char.{digit_value}
+use Rattle.std.proofs.Common.{◌≡◌, ℕ, ℤ, pos, negsuc, zero, suc, ◌-◌, ◌^◌, ◌<◌, ◌≤◌, Bool, true, false, ltb, leb, eqb, ◌&&◌, List, [], ◌∷◌, length, get_or, Some, option_map, refl, ap, sym, ◌∙◌, subst, arith, inl, inr}
 use Rattle.std.specs.Fmt.{decimal, signed_decimal}
 use Rattle.std.specs.List.{list_all}
-use Rattle.std.specs.Str.Parse.{digits_value, AllDigits}
-use Rattle.std.proofs.lemmas.Bool.{lt-ltb, le-ltb, eq-eqb, false≢true, le-leb, leb-true, ltb-true, ne_eqb, eqb-true, cases_Bool, and_parts}
+use Rattle.std.specs.Str.Parse.{digits_value}
+use Rattle.std.proofs.lemmas.Bool.{lt-ltb, eq-eqb, false≢true, le-leb, leb-true, ltb-true, ne_eqb, eqb-true, cases_Bool, and_parts}
 use Rattle.std.proofs.lemmas.Fmt.{decimal-digits_value, digits_decimal, digits_value-decimal, decimal_nonempty, decimal_digit, first_decimal}
 use Rattle.std.specs.Option.{option_and_then}
 use Rattle.std.proofs.lemmas.Option.{option_and_then_some, cond_some}
 use Rattle.std.proofs.lemmas.Str.Parse.{IsNumeralModel, numerals_by_value, IsDigitsTest}
-use Rattle.journal_text.specs.LineReading.{a_count, positive, ◌>>=◌}
+use Rattle.journal_text.specs.LineReading.{a_count, positive}
 use Rattle.journal_text.proofs.Binding.{bind_some, map_some}
-use Rattle.journal_text.specs.FieldReading.{value_in, is_decimal, at_most, is_loose, a_number, a_signed, negative, has_more, has_two, starts_with_zero}
+use Rattle.journal_text.specs.FieldReading.{value_in, is_decimal, at_most, is_loose, a_number, a_signed, negative}
 
 -- std's words for decimal digits, in those of this crate
 digits_test : IsDigitsTest (λ ds. list_all is_decimal ds ≡ true)

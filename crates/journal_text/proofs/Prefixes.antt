@@ -1,22 +1,17 @@
 -- Where the lines so far begin a journal, and where the next one does not go on with it.
-use Rattle.std.proofs.Common.{◌≡◌, ◌≢◌, ℕ, zero, suc, ◌+◌, ◌^◌, ◌<◌, ◌≤◌, Bool, true, false, leb, List, [], ◌∷◌, ◌++◌, length, map, Option, Some, None, refl, ap, sym, ◌∙◌, subst, arith, append_assoc, append-nil, length-append}
-use Rattle.std.specs.List.{AllByRecursion, flat_map, list_all, slice_split}
-use Rattle.std.specs.Prelude.{codes}
-use Rattle.std.proofs.lemmas.Bool.{leb-true, and_parts}
+use Rattle.std.proofs.Common.{◌≡◌, ℕ, suc, ◌+◌, ◌^◌, ◌<◌, ◌≤◌, List, [], ◌∷◌, ◌++◌, length, map, Option, Some, None, refl, ap, sym, ◌∙◌, subst, arith, append_assoc, append-nil, length-append}
+use Rattle.std.specs.List.{AllByRecursion, flat_map, slice_split}
 use Rattle.std.proofs.lemmas.Grind.{flat_map-append}
 use Rattle.std.proofs.lemmas.Option.{same_Some}
-use Rattle.heap_terms.specs.declared.events.Cull.{Cull}
 use Rattle.heap_terms.specs.declared.events.Event.{Event}
 use Rattle.heap_terms.specs.declared.events.Event.TheVariants as events
 use Rattle.heap_terms.specs.declared.events.PassRecord.{PassRecord}
-use Rattle.heap_terms.specs.declared.events.PinAt.{PinAt}
-use Rattle.heap_terms.specs.declared.events.Placing.{Placing}
-use Rattle.heap_terms.specs.Text.{event_text, field, index_text, journal_text, line, name_text, number_field, pass_text, placing_text, value_text}
+use Rattle.heap_terms.specs.Text.{line}
 use Rattle.journal_text.specs.declared.parsing.pieces.Piece.{Piece}
 use Rattle.journal_text.specs.declared.parsing.pieces.Piece.TheVariants as pieces
 use Rattle.journal_text.specs.declared.parsing.stages.Stage.{Stage}
 use Rattle.journal_text.specs.declared.parsing.stages.Stage.TheVariants as stages
-use Rattle.journal_text.specs.Builder.{State, add, done, fresh, run, start, with_swept}
+use Rattle.journal_text.specs.Builder.{State, add, done, run, start, with_swept}
 use Rattle.journal_text.specs.LineReading.{◌>>=◌}
 use Rattle.journal_text.specs.Cursors.{is_space}
 use Rattle.journal_text.specs.Journals.{AreLines, BeginsJournal, HasNoLf, IsCutOff, IsFirstBad, IsJournal}
@@ -26,10 +21,10 @@ use Rattle.journal_text.specs.Ranges.{AreEvents, IsEvent, IsMove, IsPin, IsCull,
 use Rattle.journal_text.proofs.Joined.{joined, joined_split}
 use Rattle.journal_text.proofs.LineTexts.{text_joined}
 use Rattle.journal_text.proofs.Machine.{event_pieces, journal_pieces, journal_run, pass_pieces}
-use Rattle.journal_text.proofs.Pieces.{IsPiece, line_sound, piece_fields}
+use Rattle.journal_text.proofs.Pieces.{IsPiece, line_sound}
 use Rattle.journal_text.proofs.Binding.{bind_some}
-use Rattle.journal_text.proofs.Distinct.{content, content_no_lf, content_read, cut_lf, journal_good, journal_lines, text_content, pieces_same}
-use Rattle.journal_text.proofs.States.{Tidy, Took, front, open_pieces, swept_pieces, taken, taken_at, took, within}
+use Rattle.journal_text.proofs.Distinct.{content, content_no_lf, content_read, cut_lf, journal_good, journal_lines, text_content}
+use Rattle.journal_text.proofs.States.{Tidy, front, open_pieces, swept_pieces, taken, taken_at, took, within}
 
 -- ---- the ranges, back from the lines
 

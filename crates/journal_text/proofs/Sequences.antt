@@ -1,7 +1,7 @@
 -- Fields that are read one after the other by exact readers.
-use Rattle.std.proofs.Common.{◌≡◌, ℕ, List, [], ◌∷◌, Option, Some, None, refl, ap, sym, ◌∙◌}
+use Rattle.std.proofs.Common.{◌≡◌, ℕ, List, [], ◌∷◌, Option, Some, ap, ◌∙◌}
 use Rattle.std.proofs.lemmas.Option.{some_pair_parts}
-use Rattle.journal_text.specs.LineReading.{◌>>=◌, first, one, two, three}
+use Rattle.journal_text.specs.LineReading.{first, one, two, three}
 use Rattle.journal_text.proofs.Binding.{bind_some}
 use Rattle.journal_text.proofs.Exact.{IsExact}
 

@@ -1,47 +1,27 @@
 -- The fields of a line have no blanks, and its text is they, joined.
-use Rattle.std.proofs.Common.{◌≡◌, ℕ, zero, suc, ◌^◌, ◌-◌, ◌+◌, ◌<◌, ◌≤◌, Bool, true, false, cond, List, [], ◌∷◌, ◌++◌, length, map, Option, Some, None, refl, ap, sym, ◌∙◌, subst, arith, inl, inr}
+use Rattle.std.proofs.Common.{◌≡◌, ℕ, suc, ◌^◌, ◌<◌, ◌≤◌, true, List, [], ◌∷◌, ◌++◌, map, Option, Some, None, refl, ◌∙◌, arith, inl, inr}
 use Rattle.std.specs.Fmt.{decimal}
 use Rattle.std.specs.Prelude.{codes}
-use Rattle.std.proofs.lemmas.Bool.{false≢true}
-use Rattle.std.proofs.lemmas.Fmt.{decimal_digit}
-use Rattle.std.proofs.lemmas.Option.{some_pair_parts, same_Some, cond_some}
 use Rattle.heap_terms.specs.declared.answers.Answer.{Answer}
 use Rattle.heap_terms.specs.declared.answers.Answer.TheVariants as answers
 use Rattle.heap_terms.specs.declared.cells.Value.{Value}
 use Rattle.heap_terms.specs.declared.commands.Command.{Command}
 use Rattle.heap_terms.specs.declared.commands.Command.TheVariants as commands
-use Rattle.heap_terms.specs.declared.events.Cull.{Cull}
-use Rattle.heap_terms.specs.declared.events.Event.{Event}
 use Rattle.heap_terms.specs.declared.events.Event.TheVariants as events
 use Rattle.heap_terms.specs.Text.{name_text, index_text, value_text, type_text}
 use Rattle.heap_terms.specs.Valid.{IsInRange}
 use Rattle.journal_text.specs.declared.parsing.pieces.Piece.{Piece}
 use Rattle.journal_text.specs.declared.parsing.pieces.Piece.TheVariants as pieces
-use Rattle.journal_text.specs.declared.parsing.records.Kind.{Kind}
-use Rattle.journal_text.specs.declared.parsing.records.Kind.TheVariants as kinds
-use Rattle.journal_text.specs.declared.parsing.records.Verb.{Verb}
-use Rattle.journal_text.specs.declared.parsing.records.Verb.TheVariants as verbs
-use Rattle.journal_text.specs.declared.parsing.rows.Shape.TheVariants as shapes
 use Rattle.journal_text.specs.declared.parsing.words.Name.{Name}
 use Rattle.journal_text.specs.declared.parsing.words.Name.TheVariants as names
-use Rattle.journal_text.specs.AnswerReading.{a_number_64, ending, read_answer, the_word}
-use Rattle.journal_text.specs.FieldReading.{a_name, a_type, a_value, an_index}
-use Rattle.journal_text.specs.LineReading.{◌>>=◌, first, two, a_collected, a_generation_number, a_number_32, read_command}
-use Rattle.journal_text.specs.PieceReading.{a_kind, a_page, a_page_count, a_thread, a_verb, command_and_arrow, counts, kind_text, move, pin, read_act, read_by_kind, read_by_verb, read_command_line, read_did, read_line, read_record, read_verb, stay, verb_text, whole}
-use Rattle.journal_text.specs.Ranges.{IsName, IsIndex, IsValue, IsAnswer, IsEvent, IsMove, IsPin, IsCull, IsNumber32, IsPageNumber, IsThread}
-use Rattle.journal_text.specs.Rows.{admits, may_answer}
-use Rattle.journal_text.specs.Words.{command_word, name_in, word_of}
-use Rattle.journal_text.proofs.Answers.{answer_fields, ending_sound, word_exact_at, number_64_exact}
-use Rattle.journal_text.proofs.Binding.{bind_some}
-use Rattle.journal_text.proofs.Commands.{Spells, command_again, command_sound, spelled}
-use Rattle.journal_text.proofs.Exact.{IsExact, IsCount, number_exact, count_exact, collected_exact, generation_number_exact, value_exact, name_exact, index_exact, type_exact}
-use Rattle.journal_text.proofs.Sequences.{first_sound, one_sound, two_sound, three_sound}
-use Rattle.journal_text.proofs.WholeAnswers.{Suits, answer_again, answer_sound, ids_exact}
-use Rattle.journal_text.proofs.Words.{kind_again, name_again, verb_again}
-use Rattle.journal_text.proofs.WordsFound.{kind_found, name_found, verb_found}
-use Rattle.std.proofs.Common.{ℤ, pos, negsuc, leb, ◌&&◌, append_assoc, append-nil}
+use Rattle.journal_text.specs.LineReading.{first}
+use Rattle.journal_text.specs.Ranges.{IsName, IsIndex, IsValue, IsAnswer, IsMove, IsNumber32}
+use Rattle.journal_text.specs.Words.{name_in, word_of}
+use Rattle.journal_text.proofs.Answers.{answer_fields}
+use Rattle.journal_text.proofs.Commands.{spelled}
+use Rattle.std.proofs.Common.{ℤ, pos, negsuc, leb, ◌&&◌}
 use Rattle.std.specs.Fmt.{signed_decimal}
-use Rattle.std.specs.List.{AllByRecursion, flat_map, list_all}
+use Rattle.std.specs.List.{AllByRecursion, list_all}
 use Rattle.std.proofs.lemmas.Bool.{leb-true, le-leb, and_parts, cases_Bool}
 use Rattle.std.proofs.lemmas.List.Folds.{list_all-append}
 use Rattle.heap_terms.specs.declared.answers.Item.{Item}
@@ -55,14 +35,14 @@ use Rattle.heap_terms.specs.declared.kinds.PageType.{PageType}
 use Rattle.heap_terms.specs.declared.kinds.PageType.TheVariants as types
 use Rattle.heap_terms.specs.declared.kinds.Weakness.{Weakness}
 use Rattle.heap_terms.specs.declared.kinds.Weakness.TheVariants as weaknesses
-use Rattle.heap_terms.specs.Text.{cell_text, word_text, weakness_text, refusal_text, hex_digits, field, line, fields_text, answer_text, item_text, event_text, command_text, number_field, placing_text, page_text}
-use Rattle.heap_terms.specs.Valid.{IsCell, IsFixnum, IsSigned, name_of}
+use Rattle.heap_terms.specs.Text.{cell_text, word_text, weakness_text, refusal_text, hex_digits, item_text}
+use Rattle.heap_terms.specs.Valid.{IsCell, IsFixnum, IsSigned}
 use Rattle.journal_text.specs.FieldReading.{is_decimal, is_hex}
-use Rattle.journal_text.specs.Ranges.{IsItem, IsItemOf, AreIds, IsPage}
-use Rattle.journal_text.proofs.Answers.{item_field, object_field}
+use Rattle.journal_text.specs.Ranges.{IsItem, IsItemOf, AreIds}
+use Rattle.journal_text.proofs.Answers.{item_field}
 use Rattle.journal_text.proofs.Exact.{lettered}
 use Rattle.journal_text.proofs.HexDigits.{hex_all}
-use Rattle.journal_text.proofs.Joined.{solid, Solid, joined}
+use Rattle.journal_text.proofs.Joined.{solid, Solid}
 use Rattle.journal_text.proofs.Numerals.{decimal_digits}
 use Rattle.journal_text.proofs.Pieces.{IsPiece, piece_fields, move_fields}
 

@@ -1,7 +1,7 @@
 -- The lines that a state has taken.
-use Rattle.std.proofs.Common.{◌≡◌, ℕ, zero, suc, ◌+◌, ◌^◌, ◌<◌, ◌≤◌, Bool, true, false, ◌&&◌, eqb, leb, cond, List, [], ◌∷◌, ◌++◌, length, map, Option, Some, None, refl, ap, sym, ◌∙◌, subst, arith, append_assoc, append-nil, length-append}
-use Rattle.std.specs.List.{AllByRecursion, flat_map}
-use Rattle.std.proofs.lemmas.Bool.{eqb-true, leb-true, and_parts, cases_Bool}
+use Rattle.std.proofs.Common.{◌≡◌, ℕ, ◌≤◌, eqb, leb, cond, List, [], ◌∷◌, ◌++◌, length, map, Some, None, refl, ap, sym, ◌∙◌, subst, arith, append_assoc, append-nil}
+use Rattle.std.specs.List.{flat_map}
+use Rattle.std.proofs.lemmas.Bool.{eqb-true, leb-true, and_parts}
 use Rattle.std.proofs.lemmas.Grind.{flat_map-append}
 use Rattle.std.proofs.lemmas.Option.{same_Some, cond_some}
 use Rattle.heap_terms.specs.declared.events.Event.{Event}
@@ -14,8 +14,7 @@ use Rattle.journal_text.specs.declared.parsing.pieces.Piece.{Piece}
 use Rattle.journal_text.specs.declared.parsing.pieces.Piece.TheVariants as pieces
 use Rattle.journal_text.specs.declared.parsing.stages.Stage.{Stage}
 use Rattle.journal_text.specs.declared.parsing.stages.Stage.TheVariants as stages
-use Rattle.journal_text.specs.Builder.{State, add, between, closed, closed_by, collecting, done, fresh, is_open, opened_pass, rank, run, start, swept, with_breaks, with_culls, with_freed, with_moves, with_pass, with_pins, with_queued, with_swept}
-use Rattle.journal_text.specs.LineReading.{◌>>=◌}
+use Rattle.journal_text.specs.Builder.{State, add, between, closed, closed_by, collecting, done, fresh, is_open, opened_pass, rank, swept, with_breaks, with_culls, with_freed, with_moves, with_pass, with_pins, with_queued, with_swept}
 use Rattle.journal_text.proofs.Binding.{bind_some}
 use Rattle.journal_text.proofs.Machine.{event_pieces, journal_pieces, pass_pieces}
 use Rattle.journal_text.proofs.Pieces.{IsPiece}

@@ -1,10 +1,9 @@
 -- All the fields behind an arrow are one answer's, and each answer is read back.
-use Rattle.std.proofs.Common.{◌≡◌, ℕ, ℤ, pos, negsuc, zero, suc, ◌^◌, ◌-◌, ◌+◌, ◌<◌, ◌≤◌, Bool, true, false, ◌&&◌, eqb, leb, cond, List, [], ◌∷◌, ◌++◌, length, get_or, map, Option, Some, None, refl, ap, sym, ◌∙◌, subst, arith, inl, inr, append-nil}
+use Rattle.std.proofs.Common.{◌≡◌, ℕ, ℤ, ◌^◌, ◌<◌, ◌≤◌, Bool, true, false, ◌&&◌, eqb, leb, List, [], ◌∷◌, get_or, map, Option, Some, refl, ap, sym, ◌∙◌, subst, arith, inl, inr}
 use Rattle.std.specs.Fmt.{decimal, signed_decimal}
 use Rattle.std.specs.List.{AllByRecursion}
 use Rattle.std.specs.Prelude.{codes}
-use Rattle.std.specs.Str.{bytes_eq}
-use Rattle.std.proofs.lemmas.Bool.{cases_Bool, eqb-true, ne_eqb, eq-eqb, le-leb, lt-leb}
+use Rattle.std.proofs.lemmas.Bool.{cases_Bool, ne_eqb, le-leb}
 use Rattle.std.proofs.lemmas.Option.{some_pair_parts, same_Some}
 use Rattle.heap_terms.specs.declared.answers.Answer.{Answer}
 use Rattle.heap_terms.specs.declared.answers.Answer.TheVariants as answers
@@ -23,14 +22,13 @@ use Rattle.journal_text.specs.declared.parsing.openings.Filling.TheVariants as f
 use Rattle.journal_text.specs.declared.parsing.openings.Opening.{Opening}
 use Rattle.journal_text.specs.declared.parsing.openings.Opening.TheVariants as openings
 use Rattle.journal_text.specs.AnswerReading.{ending, opening_text, an_opening, a_short_opening, a_long_opening, a_number_64, an_item, an_object, all_of, the_word, a_filling, filling_text, some_ran, read_live, read_ran, three_numbers, read_stat, read_small, read_large, read_filled, read_page, read_worded, second_is_x, read_numeric, placed, read_named, read_opened, read_answer}
-use Rattle.journal_text.specs.FieldReading.{a_number, a_fixnum, a_word, a_name, an_index, a_value, a_generation}
+use Rattle.journal_text.specs.FieldReading.{a_fixnum, a_word, a_name, an_index, a_value, a_generation}
 use Rattle.journal_text.specs.LineReading.{◌>>=◌, first, a_number_32}
-use Rattle.journal_text.specs.Ranges.{IsName, IsIndex, IsValue, IsItem, IsPage, AreIds, IsAnswer, IsNumber32}
+use Rattle.journal_text.specs.Ranges.{IsName, IsIndex, IsValue, IsItem, AreIds, IsAnswer, IsNumber32}
 use Rattle.journal_text.proofs.Answers.{item_field, object_field, answer_fields, ending_sound, word_exact_at, number_64_exact, filling_exact, object_exact, item_exact, all_sound, all_again}
 use Rattle.journal_text.proofs.Binding.{bind_some}
 use Rattle.journal_text.proofs.Exact.{IsExact, lettered, number_32_exact, value_exact, generation_exact, name_exact, index_exact, fixnum_exact, word_exact, Fronted, signed_front, decimal_front}
 use Rattle.journal_text.proofs.Sequences.{first_sound}
-use Rattle.journal_text.proofs.Words.{opening_again}
 use Rattle.journal_text.proofs.WordsFound.{opening_found}
 
 -- what the fields behind a first one say, with it

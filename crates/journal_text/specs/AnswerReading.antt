@@ -1,13 +1,11 @@
 -- Reading an answer: all the fields behind the arrow.
-use Rattle.std.specs.Prelude.{◌≡◌, ℕ, zero, suc, pos, ◌^◌, ◌-◌, Bool, true, false, ◌&&◌, List, [], ◌∷◌, ◌++◌, Option, Some, None, option_map, Result, Ok, Err, if◌then◌else◌, ◌==◌, nat_le, bytes_eq, codes}
+use Rattle.std.specs.Prelude.{◌≡◌, ℕ, ◌^◌, ◌-◌, Bool, false, ◌&&◌, List, [], ◌∷◌, ◌++◌, Option, Some, None, option_map, Result, Ok, Err, if◌then◌else◌, ◌==◌, nat_le, bytes_eq, codes}
 use Rattle.heap_terms.specs.declared.answers.Answer.{Answer}
 use Rattle.heap_terms.specs.declared.answers.Answer.TheVariants as answers
 use Rattle.heap_terms.specs.declared.answers.Item.{Item}
 use Rattle.heap_terms.specs.declared.answers.PageView.TheVariants as views
-use Rattle.heap_terms.specs.declared.answers.Refusal.{Refusal}
 use Rattle.heap_terms.specs.declared.answers.Refusal.TheVariants as refusals
 use Rattle.heap_terms.specs.declared.cells.Value.TheVariants as values
-use Rattle.heap_terms.specs.declared.commands.Command.{Command}
 use Rattle.heap_terms.specs.declared.kinds.PageType.{PageType}
 use Rattle.heap_terms.specs.declared.kinds.PageType.TheVariants as types
 use Rattle.heap_terms.specs.Text.{refusal_text, type_text}

@@ -1,5 +1,5 @@
 -- What one field of a journal says. Each reader is the inverse of the text that stands beside it.
-use Rattle.std.specs.Prelude.{◌≡◌, ℕ, ℤ, pos, negsuc, zero, suc, ◌-◌, ◌^◌, ◌+◌, Bool, true, false, ◌&&◌, ◌||◌, not, List, [], ◌∷◌, length, drop, take, Option, Some, None, option_map, option_and_then, if◌then◌else◌, nat_lt, nat_le, ◌==◌, slice_index, bytes_eq, codes}
+use Rattle.std.specs.Prelude.{◌≡◌, ℕ, ℤ, pos, negsuc, zero, suc, ◌-◌, ◌^◌, Bool, true, false, ◌&&◌, ◌||◌, not, List, [], ◌∷◌, length, drop, take, Option, Some, None, option_map, option_and_then, if◌then◌else◌, nat_lt, nat_le, ◌==◌, bytes_eq, codes}
 use Rattle.std.specs.Char.{digit_value}
 use Rattle.std.specs.List.{list_all}
 use Rattle.std.specs.Str.Parse.{digits_value, digits_value_after}

@@ -1,5 +1,5 @@
 -- Reading the fields of a line one after the other. A reader answers what it read and the fields that are left.
-use Rattle.std.specs.Prelude.{◌≡◌, ℕ, zero, suc, ℤ, ◌^◌, ◌-◌, List, [], ◌∷◌, Option, Some, None, option_map}
+use Rattle.std.specs.Prelude.{◌≡◌, ℕ, zero, suc, ℤ, ◌^◌, List, [], ◌∷◌, Option, Some, None}
 use Rattle.heap_terms.specs.declared.commands.Command.{Command}
 use Rattle.heap_terms.specs.declared.commands.Command.TheVariants as commands
 use Rattle.journal_text.specs.declared.parsing.words.Name.{Name}

@@ -1,5 +1,5 @@
 -- Reading a line: an event, but for a collection's passes, or a line of a pass, or the last line.
-use Rattle.std.specs.Prelude.{◌≡◌, ℕ, Bool, List, [], ◌∷◌, Option, Some, None, Result, if◌then◌else◌, bytes_eq, codes}
+use Rattle.std.specs.Prelude.{ℕ, Bool, List, [], ◌∷◌, Option, Some, None, Result, if◌then◌else◌, bytes_eq, codes}
 use Rattle.heap_terms.specs.declared.commands.Command.{Command}
 use Rattle.heap_terms.specs.declared.events.Event.TheVariants as events
 use Rattle.journal_text.specs.declared.parsing.faults.LineFault.{LineFault}

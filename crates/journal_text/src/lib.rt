@@ -5,6 +5,8 @@ mod faults;
 mod laws;
 mod parsing;
 mod printing;
+#[cfg(test)]
+mod tests;
 
 pub use faults::JournalFault;
 pub use laws::texts_are_distinct;

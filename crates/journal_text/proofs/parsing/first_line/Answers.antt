@@ -1,4 +1,4 @@
-use Rattle.std.proofs.Common.{◌≡◌, ◌+◌, ◌<◌, ◌∷◌, ◌++◌, List, ℕ, length, take, drop, ap, sym, ◌∙◌, subst, arith, take_all}
+use Rattle.std.proofs.Common.{◌<◌, ◌∷◌, ◌++◌, length, drop, ap, sym, ◌∙◌, subst, arith, take_all}
 use Rattle.journal_text.specs.Journals.{HasNoLf}
 use Rattle.journal_text.proofs.Ends.{no_lf_before, line_whole}
 use Rattle.journal_text.proofs.Values.{next_byte}

@@ -1,4 +1,4 @@
-use Rattle.std.proofs.Common.{sym, ◌∙◌, ap, ◌≡◌, Some, None}
+use Rattle.std.proofs.Common.{sym}
 use Rattle.journal_text.specs.AnswerReading.{an_item}
 use Rattle.journal_text.proofs.Lists.{all_stop, all_more, all_end, all_start}
 use Rattle.journal_text.proofs.parsing.answers.items.Goals as goal

@@ -1,5 +1,5 @@
-use Rattle.std.proofs.Common.{◌≡◌, Some, None, sym, ◌∙◌, ap, refl}
-use Rattle.journal_text.specs.AnswerReading.{an_opening, opening_text}
+use Rattle.std.proofs.Common.{◌≡◌, Some, None, ◌∙◌, ap, refl}
+use Rattle.journal_text.specs.AnswerReading.{an_opening}
 use Rattle.journal_text.proofs.Words.{opening_again}
 use Rattle.journal_text.proofs.parsing.answers.opened.Goals as goal
 

@@ -1,4 +1,4 @@
-use Rattle.std.proofs.Common.{◌≡◌, ◌+◌, ◌<◌, length, take, drop, take_all, refl, ap, sym, ◌∙◌, ◌∷◌, [], List, ℕ, arith, length-drop, drop-drop, add-one}
+use Rattle.std.proofs.Common.{◌≡◌, ◌+◌, ◌<◌, length, drop, take_all, ap, sym, ◌∙◌, ◌∷◌, [], List, ℕ, arith, length-drop}
 use Rattle.std.specs.List.{slice_split}
 use Rattle.std.proofs.lemmas.Bool.{eqb-true, eq-eqb, false≢true}
 use Rattle.journal_text.specs.Cursors.{is_space}

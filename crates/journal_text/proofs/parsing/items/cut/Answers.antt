@@ -1,5 +1,4 @@
-use Rattle.std.proofs.Common.{◌≡◌, ◌+◌, ◌<◌, ◌∷◌, List, ℕ, length, take, drop, Some, ap, sym, ◌∙◌, arith, add-one}
-use Rattle.journal_text.specs.AnswerReading.{cut_at}
+use Rattle.std.proofs.Common.{◌<◌, length, drop, Some, ap, sym, ◌∙◌, arith, add-one}
 use Rattle.journal_text.proofs.Cuts.{cut_none, cut_some}
 use Rattle.journal_text.proofs.Values.{next_byte}
 use Rattle.journal_text.proofs.parsing.items.cut.Goals as goal

@@ -1,4 +1,4 @@
-use Rattle.std.proofs.Common.{◌≡◌, sym, ◌∙◌, arith}
+use Rattle.std.proofs.Common.{◌∙◌, arith}
 use Rattle.journal_text.specs.FieldReading.{is_decimal}
 use Rattle.journal_text.proofs.Values.{value_from_zero, stopped_at, more_at, over_at, end_at}
 use Rattle.journal_text.proofs.parsing.numbers.value_of_digits.Goals as goal

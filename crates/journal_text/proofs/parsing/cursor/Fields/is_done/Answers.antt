@@ -1,4 +1,3 @@
-use Rattle.std.proofs.Common.{sym}
 use Rattle.journal_text.proofs.Splitting.{none_left}
 use Rattle.journal_text.proofs.parsing.cursor.Fields.is_done.Goals as goal
 
