@@ -1,5 +1,4 @@
 -- How many objects there are, and the numbers in events.
 pub mod ObjectCount
-pub mod OnlyConses
 pub mod PlainEvents
 pub mod InhibitsFew

@@ -7,6 +7,4 @@ pub use Rattle.heap_laws.proofs.WellFormed.Replayed.{outcome-kept, after-well_fo
 pub use Rattle.heap_laws.proofs.WellFormed.Threads.{start_thread, start_free, open_page_used, open_run_used}
 pub use Rattle.heap_laws.proofs.WellFormed.LivingValues.{cell_living}
 pub use Rattle.heap_laws.proofs.Ranges.ObjectCount.{start_thread_is, commits_few}
--- until more kinds are built all objects are conses
-pub use Rattle.heap_laws.proofs.Ranges.OnlyConses.{IsCons, only_conses, cons_contents}
 pub use Rattle.heap_laws.proofs.Outcomes.Parts.{with_field-kind}

@@ -34,11 +34,9 @@ EventsKeepHeaps = (p : Program) (a : NamedHeap) (e : Event) → IsLimited p → 
 abbrev pub HeapsAreWellFormed : Type 0
 HeapsAreWellFormed = (p : Program) (h : List Event) → IsLimited p → Lawful p h → IsWellFormed p (replay p h)
 
--- of at most 20,000 objects; until more kinds are built, all of them conses
+-- of at most 20,000 objects
 abbrev pub HeapsAreSmall : Type 0
-HeapsAreSmall = (p : Program) (h : List Event) → IsValid p → Lawful p h →
-    (length (replay p h).objects ≤ MOST_COMMANDS)
-    × ((name : ℕ) → IfSome (object_at (replay p h).objects name) (λ o. kind_of o.contents ≡ kinds.Cons))
+HeapsAreSmall = (p : Program) (h : List Event) → IsValid p → Lawful p h → length (replay p h).objects ≤ MOST_COMMANDS
 
 -- until collections are built a collection is never what a thread does next
 abbrev pub NobodyCollects : Type 0

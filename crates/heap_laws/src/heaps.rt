@@ -20,8 +20,7 @@ pub fn heaps_are_well_formed()
     ensures { HeapsAreWellFormed }
 {}
 
-/// A heap has at most 20,000 objects, since a command makes at most one. Holds until more kinds are
-/// built: all of them are conses.
+/// A heap has at most 20,000 objects, since a command makes at most one.
 pub fn heaps_are_small()
     ensures { HeapsAreSmall }
 {}

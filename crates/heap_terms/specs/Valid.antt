@@ -70,6 +70,7 @@ name_of (Stat g) = codes "stat"
 -- the words that this version reads; a line that begins with another word is refused
 abbrev pub built_words : List (List ℕ)
 built_words = codes "lispheap" ∷ codes "heap" ∷ codes "thread" ∷ codes "fix" ∷ codes "nil" ∷ codes "move" ∷ codes "cons"
+    ∷ codes "vector" ∷ codes "instance" ∷ codes "closure" ∷ codes "words"
     ∷ codes "get" ∷ codes "put" ∷ codes "rawget" ∷ codes "rawput" ∷ codes "eq" ∷ codes "show" ∷ codes "addr"
     ∷ codes "raw" ∷ codes "add" ∷ codes "nogc" ∷ codes "gcok" ∷ codes "schedule" ∷ codes "end" ∷ []
 

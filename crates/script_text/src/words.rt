@@ -49,6 +49,10 @@ pub(crate) fn meaning_of(word: &[u8]) -> Option<Keyword>
 {
     match word {
         b"cons" => Some(Keyword::Command(Name::Cons)),
+        b"vector" => Some(Keyword::Command(Name::Vector)),
+        b"instance" => Some(Keyword::Command(Name::Instance)),
+        b"closure" => Some(Keyword::Command(Name::Closure)),
+        b"words" => Some(Keyword::Command(Name::Words)),
         b"get" => Some(Keyword::Command(Name::Get)),
         b"put" => Some(Keyword::Command(Name::Put)),
         b"show" => Some(Keyword::Command(Name::Show)),
@@ -95,6 +99,18 @@ fn plain_a(rest: &[u8]) -> Option<(Name, &[u8])>
     }
 }
 
+/// The name of a command that begins with `c`, as below.
+#[inline(always)]
+fn plain_c(rest: &[u8]) -> Option<(Name, &[u8])>
+    ensures taken { IfSome result (λ f. Taken rest.now (text_of_name f.0) f.1.now) }
+    ensures built { IfSome result (λ f. is_built (text_of_name f.0) ≡ true) }
+{
+    match plain_word(rest, b"cons ") {
+        Some(after) => Some((Name::Cons, after)),
+        None => Some((Name::Closure, plain_word(rest, b"closure ")?)),
+    }
+}
+
 /// The name of a command that begins with `r`, as below.
 #[inline(always)]
 fn plain_r(rest: &[u8]) -> Option<(Name, &[u8])>
@@ -120,7 +136,10 @@ pub(crate) fn plain_name(rest: &[u8]) -> Option<(Name, &[u8])>
         return None;
     }
     match rest[0] {
-        b'c' => Some((Name::Cons, plain_word(rest, b"cons ")?)),
+        b'c' => plain_c(rest),
+        b'v' => Some((Name::Vector, plain_word(rest, b"vector ")?)),
+        b'i' => Some((Name::Instance, plain_word(rest, b"instance ")?)),
+        b'w' => Some((Name::Words, plain_word(rest, b"words ")?)),
         b'g' => Some((Name::Get, plain_word(rest, b"get ")?)),
         b'p' => Some((Name::Put, plain_word(rest, b"put ")?)),
         b's' => Some((Name::Show, plain_word(rest, b"show ")?)),

@@ -20,14 +20,19 @@ use Rattle.heap_terms.specs.Objects.{Object, Contents}
 use Rattle.heap_terms.specs.Outcomes.{outcome_of}
 use Rattle.heap_terms.specs.Passes.{object_after, after_pass}
 use Rattle.heap_terms.specs.Referents.{changed_at}
-use Rattle.heap_terms.specs.Regions.{committed, counting, triggers, run_used, pages_after, place_for, with_destination, destination_of, initial_contents}
+use Rattle.heap_terms.specs.declared.kinds.PageType.{PageType}
+use Rattle.heap_terms.specs.Regions.{committed, counting, opened, triggers, run_used, pages_after, place_for, with_destination, destination_of, initial_contents}
 use Rattle.heap_laws.specs.CommandLaws.{name_in, name_in_answer, names_of}
 use Rattle.heap_laws.proofs.Events.Causes.{by_events}
 use Rattle.heap_laws.proofs.Events.OwnThread.{with_destination-objects}
 use Rattle.heap_laws.proofs.Events.Tasks.{with_cell-objects}
 use Rattle.heap_laws.proofs.OneCommand.Outcome.{is_plain, by_table, by_answers, placed_not_plain}
 use Rattle.heap_laws.proofs.Ranges.ObjectCount.{start_empty}
-use Rattle.heap_laws.proofs.Ranges.OnlyConses.{opened-objects}
+
+-- an opening changes no object
+opened-objects : (a : NamedHeap) (t : ℕ) (ty : PageType) (first k : ℕ) → (opened a t ty first k).objects ≡ a.objects
+unfolding opened
+opened-objects a t ty first k = refl
 
 -- counting changes no object
 counting-objects : (p : Program) (b : NamedHeap) (t size : ℕ) → (counting p b t size).objects ≡ b.objects

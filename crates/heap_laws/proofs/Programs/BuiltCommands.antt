@@ -1,16 +1,13 @@
 -- What is known of the commands of a valid program.
-use Rattle.std.proofs.Common.{◌≡◌, ℕ, ◌<◌, [], length, Some, true, ◌⊎◌, inl, inr, refl, subst}
+use Rattle.std.proofs.Common.{◌≡◌, ℕ, ◌<◌, [], length, Some, true, inl, inr, subst}
 use Rattle.std.proofs.lemmas.Bool.{cases_lt, false≢true}
 use Rattle.std.proofs.lemmas.List.{get_or_past}
 use Rattle.std.proofs.lemmas.Option.{slice_get_within, get_or_from_slice_get, none-some}
 use Rattle.std.specs.Prelude.{slice_get}
 use Rattle.heap_terms.specs.declared.commands.Command.{Command}
-use Rattle.heap_terms.specs.declared.commands.Command.TheVariants.{Fix, MakeNil, Move, NewCons, Get, Put, RawGet, RawPut, Same, Show, Addr, SetRaw, AddRaw, Inhibit, Allow}
-use Rattle.heap_terms.specs.declared.kinds.Kind.{Kind}
-use Rattle.heap_terms.specs.declared.kinds.Kind.TheVariants as kinds
+use Rattle.heap_terms.specs.declared.commands.Command.TheVariants.{Fix, MakeNil, Move, NewCons, NewVector, NewInstance, NewClosure, NewWords, Get, Put, RawGet, RawPut, Same, Show, Addr, SetRaw, AddRaw, Inhibit, Allow}
 use Rattle.heap_terms.specs.declared.programs.Program.{Program}
 use Rattle.heap_terms.specs.Histories.{script_of}
-use Rattle.heap_terms.specs.Regions.{Nothing, Make, wish_of}
 use Rattle.heap_terms.specs.Valid.{IsValid, IsCommand, name_of, is_built}
 
 -- a place in a script that has a command belongs to a thread
@@ -36,6 +33,10 @@ IsBuilt (Fix d n) = Unit {0}
 IsBuilt (MakeNil d) = Unit {0}
 IsBuilt (Move d c) = Unit {0}
 IsBuilt (NewCons d a b) = Unit {0}
+IsBuilt (NewVector d n) = Unit {0}
+IsBuilt (NewInstance d n) = Unit {0}
+IsBuilt (NewClosure d n) = Unit {0}
+IsBuilt (NewWords d n w) = Unit {0}
 IsBuilt (Get d c i) = Unit {0}
 IsBuilt (Put c i a) = Unit {0}
 IsBuilt (RawGet r c i) = Unit {0}
@@ -55,6 +56,10 @@ IsBuilt-from_word (Fix d n) e = tt
 IsBuilt-from_word (MakeNil d) e = tt
 IsBuilt-from_word (Move d c) e = tt
 IsBuilt-from_word (NewCons d a b) e = tt
+IsBuilt-from_word (NewVector d n) e = tt
+IsBuilt-from_word (NewInstance d n) e = tt
+IsBuilt-from_word (NewClosure d n) e = tt
+IsBuilt-from_word (NewWords d n w) e = tt
 IsBuilt-from_word (Get d c i) e = tt
 IsBuilt-from_word (Put c i a) e = tt
 IsBuilt-from_word (RawGet r c i) e = tt
@@ -68,38 +73,6 @@ IsBuilt-from_word Inhibit e = tt
 IsBuilt-from_word Allow e = tt
 IsBuilt-from_word _ e = false≢true e
 
--- what a built command wishes for
-pub built_wish : (c : Command) → IsBuilt c → (wish_of c ≡ Nothing) ⊎ (wish_of c ≡ Make kinds.Cons 2 0)
-built_wish (Fix d n) built = inl refl
-built_wish (MakeNil d) built = inl refl
-built_wish (Move d c) built = inl refl
-built_wish (NewCons d a b) built = inr refl
-built_wish (Get d c i) built = inl refl
-built_wish (Put c i a) built = inl refl
-built_wish (RawGet r c i) built = inl refl
-built_wish (RawPut c i r) built = inl refl
-built_wish (Same a b) built = inl refl
-built_wish (Show c) built = inl refl
-built_wish (Addr r c) built = inl refl
-built_wish (SetRaw r w) built = inl refl
-built_wish (AddRaw r k) built = inl refl
-built_wish Inhibit built = inl refl
-built_wish Allow built = inl refl
-built_wish _ built = absurd built
-
 -- a command of a valid program's scripts is built
 pub script_built : (p : Program) (t i : ℕ) (c : Command) → IsValid p → slice_get (script_of p t) i ≡ Some c → IsBuilt c
 script_built p t i c valid e = IsBuilt-from_word c (script_command p t i c valid e).built
-
--- and wishes for nothing or for a cons
-pub script_wish : (p : Program) (t i : ℕ) (c : Command) → IsValid p → slice_get (script_of p t) i ≡ Some c →
-    (wish_of c ≡ Nothing) ⊎ (wish_of c ≡ Make kinds.Cons 2 0)
-script_wish p t i c valid e = built_wish c (script_built p t i c valid e)
-
--- a command that wishes for something is in a valid program's scripts only if it is `cons`
-pub only_cons_built : (p : Program) (t i : ℕ) (c : Command) (kind : Kind) (n seed : ℕ) → IsValid p →
-    slice_get (script_of p t) i ≡ Some c → wish_of c ≡ Make kind n seed → (kind ≡ kinds.Cons) × (n ≡ 2) × (seed ≡ 0)
-only_cons_built p t i c kind n seed valid e w = elim (script_wish p t i c valid e) [
-  | inl h ↦ cc
-  | inr h ↦ (cc, cc, cc)
-]

@@ -2,7 +2,7 @@
 use Rattle.std.proofs.Common.{◌≡◌, ℕ, List, Some, None, false, inl, inr, refl, sym, ◌∙◌, ap}
 use Rattle.std.proofs.lemmas.Bool.{cases_eq}
 use Rattle.heap_terms.specs.declared.commands.Command.{Command}
-use Rattle.heap_terms.specs.declared.commands.Command.TheVariants.{Fix, MakeNil, Move, NewCons, Get, Put, RawGet, RawPut, Same, Show, Addr, SetRaw, AddRaw, Inhibit, Allow}
+use Rattle.heap_terms.specs.declared.commands.Command.TheVariants.{Fix, MakeNil, Move, NewCons, NewVector, NewInstance, NewClosure, NewWords, Get, Put, RawGet, RawPut, Same, Show, Addr, SetRaw, AddRaw, Inhibit, Allow}
 use Rattle.heap_terms.specs.declared.events.Event.{Event}
 use Rattle.heap_terms.specs.declared.pages.Next.TheVariants as nexts
 use Rattle.heap_terms.specs.declared.programs.Program.{Program}
@@ -27,6 +27,10 @@ no_gc (Fix d n) built = refl
 no_gc (MakeNil d) built = refl
 no_gc (Move d c) built = refl
 no_gc (NewCons d x y) built = refl
+no_gc (NewVector d n) built = refl
+no_gc (NewInstance d n) built = refl
+no_gc (NewClosure d n) built = refl
+no_gc (NewWords d n w) built = refl
 no_gc (Get d c i) built = refl
 no_gc (Put c i b) built = refl
 no_gc (RawGet r c i) built = refl

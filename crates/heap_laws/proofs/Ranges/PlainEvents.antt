@@ -9,7 +9,7 @@ use Rattle.heap_terms.specs.declared.answers.Answer.TheVariants as answers
 use Rattle.heap_terms.specs.declared.cells.Value.{Value}
 use Rattle.heap_terms.specs.declared.cells.Value.TheVariants as values
 use Rattle.heap_terms.specs.declared.commands.Command.{Command}
-use Rattle.heap_terms.specs.declared.commands.Command.TheVariants.{Fix, MakeNil, Move, NewCons, Get, Put, RawGet, RawPut, Same, Show, Addr, SetRaw, AddRaw, Inhibit, Allow}
+use Rattle.heap_terms.specs.declared.commands.Command.TheVariants.{Fix, MakeNil, Move, NewCons, NewVector, NewInstance, NewClosure, NewWords, Get, Put, RawGet, RawPut, Same, Show, Addr, SetRaw, AddRaw, Inhibit, Allow}
 use Rattle.heap_terms.specs.declared.events.Event.{Event}
 use Rattle.heap_terms.specs.declared.kinds.Kind.{Kind}
 use Rattle.heap_terms.specs.declared.programs.Program.{Program}
@@ -61,6 +61,10 @@ answer_plain p a t (Fix d n) w l few pages built r = tt
 answer_plain p a t (MakeNil d) w l few pages built r = tt
 answer_plain p a t (Move d c) w l few pages built r = tt
 answer_plain p a t (NewCons d x y) w l few pages built r = tt
+answer_plain p a t (NewVector d n) w l few pages built r = tt
+answer_plain p a t (NewInstance d n) w l few pages built r = tt
+answer_plain p a t (NewClosure d n) w l few pages built r = tt
+answer_plain p a t (NewWords d n v) w l few pages built r = tt
 answer_plain p a t (Get d x i) w l few pages built r = needing_cases (λ (o : Outcome). IsPlainAnswer o.answer) (fields_at a.objects (cell_value a t x)) a _ tt (λ vs e.
     indexing_cases (λ (o : Outcome). IsPlainAnswer o.answer) vs i zero_value a (λ v. answering (answers.Val v) (with_cell a t d v)) tt (λ below.
     let f = fields_refer a.objects (cell_value a t x) vs e in
