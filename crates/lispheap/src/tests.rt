@@ -167,6 +167,107 @@ fn the_257th_cons_of_a_page_is_refused(rt: HostRuntime) -> Result<(), Fail> {
     assert_replay(&rt, alloc, input.as_bytes(), 0, journal.as_str(), "")
 }
 
+/// A script of one thread that makes objects of a kind, from the largest small one to the largest
+/// of all, on pages that they just fill, and reads the last of them; and its journal.
+fn of_every_size(
+    alloc: Global,
+    (kind, ty, seed): (&str, &str, &str),
+    reads: &[(&str, &str); 4],
+) -> Result<(String, String), Fail> {
+    let mut input = String::from_str(alloc, "lispheap 1\nheap 136\nthread\n")?;
+    let mut journal = String::new(alloc);
+    for (k, n, open, at) in [
+        (0u32, 511u32, "0 1", 0u32),
+        (1, 512, "1 2", 512),
+        (2, 513, "3 2", 1536),
+        (3, 1024, "5 3", 2560),
+        (4, 65535, "8 128", 4096),
+    ] {
+        input.push_str(format!(in alloc; "{kind} b{k} {n}{seed}\n")?.as_str())?;
+        journal.push_str(format!(in alloc;
+            "0 open {ty} {open}\n0 {kind} b{k} {n}{seed} -> #{k} @{at}\n"
+        )?.as_str())?;
+    }
+    input.push_str(format!(in alloc; "{kind} b5 0{seed}\n")?.as_str())?;
+    journal.push_str(format!(in alloc; "0 {kind} b5 0{seed} -> !exhausted\n")?.as_str())?;
+    for (line, answer) in reads {
+        input.push_str(format!(in alloc; "{line}\n")?.as_str())?;
+        journal.push_str(format!(in alloc; "0 {line} -> {answer}\n")?.as_str())?;
+    }
+    input.push_str("end\n")?;
+    journal.push_str("0 end\ndone 16\n")?;
+    Ok((input, journal))
+}
+
+#[test]
+fn objects_of_every_size_are_made(rt: HostRuntime) -> Result<(), Fail> {
+    let alloc = rt.alloc();
+    for (kind, reads) in [
+        (
+            ("vector", "boxed", ""),
+            [
+                ("addr r0 b4", "0x000000100000800f"),
+                ("get s0 b4 65534", "0"),
+                ("get s0 b3 1024", "!range"),
+                ("rawget r0 b4 0", "!type"),
+            ],
+        ),
+        (
+            ("instance", "boxed", ""),
+            [
+                ("addr r0 b4", "0x0000001000008003"),
+                ("get s0 b4 65534", "0"),
+                ("get s0 b2 513", "!range"),
+                ("rawget r0 b4 0", "!type"),
+            ],
+        ),
+        (
+            ("closure", "boxed", ""),
+            [
+                ("addr r0 b4", "0x000000100000800b"),
+                ("get s0 b4 65534", "0"),
+                ("get s0 b1 512", "!range"),
+                ("rawget r0 b4 0", "!type"),
+            ],
+        ),
+        (
+            ("words", "unboxed", " 0xfedcba9876543210"),
+            [
+                ("addr r0 b4", "0x000000100000800f"),
+                ("rawget r0 b4 65534", "0xfedcba9876543210"),
+                ("rawget r0 b0 511", "!range"),
+                ("get s0 b4 0", "!type"),
+            ],
+        ),
+    ] {
+        let (input, journal) = of_every_size(alloc, kind, &reads)?;
+        assert_replay(&rt, alloc, input.as_bytes(), 0, journal.as_str(), "")?;
+    }
+    Ok(())
+}
+
+#[test]
+fn runs_are_opened_and_an_exhausted_thread_keeps_its_region(rt: HostRuntime) -> Result<(), Fail> {
+    let alloc = rt.alloc();
+    for (input, journal) in [
+        (
+            "lispheap 1\nheap 3\nthread\nvector b0 511\nvector b1 512\nvector b2 0\nend\n",
+            "0 open boxed 0 1\n0 vector b0 511 -> #0 @0\n0 open boxed 1 2\n0 vector b1 512 -> #1 @512\n0 vector b2 0 -> !exhausted\n0 end\ndone 6\n",
+        ),
+        (
+            "lispheap 1\nheap 2\nthread\ninstance b0 100\nwords b1 512 0x1\ninstance b2 411\nclosure b3 407\nwords b4 511 0x1\nput b3 406 b2\nget b5 b3 406\nend\n",
+            "0 open boxed 0 1\n0 instance b0 100 -> #0 @0\n0 words b1 512 0x0000000000000001 -> !exhausted\n0 open boxed 1 1\n0 instance b2 411 -> #1 @512\n0 closure b3 407 -> !exhausted\n0 words b4 511 0x0000000000000001 -> !exhausted\n0 put b3 406 b2 -> !type\n0 get b5 b3 406 -> !type\n0 end\ndone 10\n",
+        ),
+        (
+            "lispheap 1\nheap 1\nthread\nvector b0 100\nvector b1 511\nvector b2 407\nvector b3 0\nput b2 406 b0\nget b4 b2 406\nend\n",
+            "0 open boxed 0 1\n0 vector b0 100 -> #0 @0\n0 vector b1 511 -> !exhausted\n0 vector b2 407 -> #1 @102\n0 vector b3 0 -> #2 @510\n0 put b2 406 b0 -> ok\n0 get b4 b2 406 -> #0\n0 end\ndone 8\n",
+        ),
+    ] {
+        assert_replay(&rt, alloc, input.as_bytes(), 0, journal, "")?;
+    }
+    Ok(())
+}
+
 #[test]
 fn bad_lines_and_limits_are_said_by_number(rt: HostRuntime) -> Result<(), Fail> {
     for (input, status, said) in [
