@@ -10,3 +10,5 @@ pub use Rattle.heap_laws.proofs.WellFormed.Replayed.{event-kept, history-kept}
 pub use Rattle.heap_laws.proofs.Lists.Sums.{sum_change}
 -- what a thread may do next is one event
 pub use Rattle.heap_laws.proofs.Order.Determined.{one_next}
+-- a valid program is within the limits
+pub use Rattle.heap_laws.proofs.Programs.Limits.{limited}

@@ -157,6 +157,26 @@ turn_most p c o = elim o.order [
   | inr held ↦ (let is = held.1.turn_is in let below = held.1.holder in omega arith)
 ]
 
+-- the thread that a holder goes on with is another one
+pub placed_in : (p : Program) (c : Configuration) (t : ℕ) (ph : Phase) → IsOrderly p c → t < length p.threads → phase_of c t ≡ ph → IsPlaced (length p.threads) t ph
+placed_in p c t ph o l at = by_phase ph at
+  where
+    held : (x : Phase) → phase_of c t ≡ x → holds x ≡ true → IsPlaced (length p.threads) t x
+    held x e holding = subst (λ (y : Phase). IsPlaced (length p.threads) t y) e (held_by p t x c o l e holding).placed
+
+    by_phase : (x : Phase) → phase_of c t ≡ x → IsPlaced (length p.threads) t x
+    by_phase Parked e = tt
+    by_phase Outside e = tt
+    by_phase Inside e = tt
+    by_phase Leaving e = tt
+    by_phase Parking e = tt
+    by_phase (Posting u) e = held (Posting u) e refl
+    by_phase (Looking u) e = held (Looking u) e refl
+    by_phase Collecting e = tt
+    by_phase (Releasing u) e = held (Releasing u) e refl
+    by_phase Returning e = tt
+    by_phase Ended e = tt
+
 -- a thread that is parked does not inhibit
 parked_allows : (ph : Phase) (due over : Bool) (inhibits : ℕ) → own_bits ph ≡ 4 → Fits ph due over inhibits → inhibits ≡ 0
 parked_allows Parked due over inhibits e h = h.1

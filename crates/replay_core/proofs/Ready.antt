@@ -13,17 +13,6 @@ use Rattle.lisp_heap.specs.Agreement.{Agrees, AreFresh, OthersAgree}
 use Rattle.lisp_heap.specs.ParcelView.{ParcelView, empty_parcel}
 use Rattle.lisp_heap.specs.View.{View, heap_of}
 use Rattle.replay_core.specs.Parcels.{AreReady}
-use Rattle.replay_core.specs.Stepping.{Turns}
-
--- a turn keeps the program
-pub Turns-program : (t : ℕ) (old new : View) (b : Bool) → Turns t old new b → new.program ≡ old.program
-Turns-program t old new true h = h.program
-Turns-program t old new false h = ap (λ (w : View). w.program) h.1
-
-pub turn-program : (t : ℕ) (old new : View) (r : Result Bool Memory) → IfOk r (Turns t old new) → OnErr r (new ≡ old) →
-    new.program ≡ old.program
-turn-program t old new (Ok b) h k = Turns-program t old new b h
-turn-program t old new (Err e) h k = ap (λ (w : View). w.program) k
 
 -- the parcel of the thread that had the turn is written back, and the others still agree
 pub ready_after : (old new : View) (ps : List ParcelView) (t : ℕ) (q : ParcelView) → AreReady old ps → t < length ps →

@@ -1,132 +1,205 @@
--- Turns one after the other.
-use Rattle.std.proofs.Common.{◌≡◌, ℕ, zero, suc, ◌+◌, ◌<◌, ◌≤◌, List, [], ◌∷◌, ◌++◌, length, Bool, true, false, refl, sym, ◌∙◌, subst, ap, inl, inr, arith, get_or, add-one, add-zero, zero-add}
-use Rattle.std.proofs.lemmas.Bool.{ltb-true, ltb-false}
-use Rattle.std.proofs.lemmas.List.{length_push, take-append-drop}
-use Rattle.std.proofs.lemmas.List.Elements.{All-drop}
-use Rattle.std.proofs.lemmas.List.FromFn.{length-range_with_len, get_or-range_with_len}
-use Rattle.std.specs.List.{range_with_len}
-use Rattle.std.specs.Prelude.{nat_lt, All, take, drop}
+-- One turn of a machine, from what its parts did.
+use Rattle.std.proofs.Common.{◌≡◌, ◌≢◌, ℕ, suc, ◌+◌, ◌<◌, ◌≤◌, ◌↔◌, List, [], ◌∷◌, ◌++◌, length, Bool, true, false, inl, inr, refl, sym, ◌∙◌, ap, subst, arith, set, get_or, ◌-◌}
+use Rattle.std.proofs.lemmas.Bool.{cases_Bool, false≢true, true≢false}
+use Rattle.std.proofs.lemmas.List.{set-get_or}
+use Rattle.std.specs.Prelude.{◌==◌, not, if◌then◌else◌, OnOk}
 use Rattle.heap_terms.specs.declared.events.Event.{Event}
-use Rattle.heap_terms.specs.declared.pages.Next.TheVariants.{Done}
+use Rattle.heap_terms.specs.declared.faults.Memory.{Memory}
+use Rattle.heap_terms.specs.declared.phases.Phase.{Phase}
+use Rattle.heap_terms.specs.declared.phases.Phase.TheVariants.{Parked, Outside, Inside, Leaving, Parking, Posting, Looking, Collecting, Releasing, Returning, Ended}
+use Rattle.heap_terms.specs.declared.phases.Task.{Task}
+use Rattle.heap_terms.specs.declared.phases.Task.TheVariants.{Walk, Happen, Rest}
 use Rattle.heap_terms.specs.declared.programs.Program.{Program}
-use Rattle.heap_terms.specs.Histories.{next, replay}
-use Rattle.heap_terms.specs.Schedules.{IsTurn, AreTurns, rounds_of}
-use Rattle.lisp_heap.specs.View.{View}
-use Rattle.replay_core.specs.Runs.{Turned, AllDone, WasBusy}
-use Rattle.replay_core.specs.Stepping.{Turns}
-use Rattle.replay_core.proofs.Ready.{Turns-program}
+use Rattle.heap_terms.specs.declared.steps.ReplayLine.{ReplayLine}
+use Rattle.heap_terms.specs.declared.steps.ReplayLine.TheVariants as replay_lines
+use Rattle.heap_terms.specs.declared.steps.StepAnswer.{StepAnswer}
+use Rattle.heap_terms.specs.declared.steps.StepAnswer.TheVariants as answers
+use Rattle.heap_terms.specs.declared.steps.WordStep.{WordStep}
+use Rattle.heap_terms.specs.declared.steps.WordStep.TheVariants.{Resume, Enter, Leave, Park, Claim, Post, Look, Release, Return}
+use Rattle.heap_terms.specs.Heap.{thread_at}
+use Rattle.heap_terms.specs.Histories.{replay}
+use Rattle.heap_terms.specs.MachineTurns.{Configuration, phase_of, is_due, has_ended, stays_inside, answer_in, step_lines, IsTurn, Does, Walks, HasEvent}
+use Rattle.heap_terms.specs.Phases.{collects, is_over, task_at, walked, happened, went}
+use Rattle.heap_terms.specs.Valid.{IsValid}
+use Rattle.heap_terms.specs.WordMachine.{has, words_after, answer_at, answer}
+use Rattle.heap_laws.specs.Limited.{IsLimited}
+use Rattle.heap_laws.proofs.EventSteps.{limited}
+use Rattle.lisp_heap.specs.View.{View, heap_of, next_of}
+use Rattle.machine_laws.specs.Fitting.{Fits}
+use Rattle.machine_laws.specs.Order.{IsPlaced, holds}
+use Rattle.machine_laws.specs.Orderly.{IsOrderly, word_in, inhibits_in}
+use Rattle.machine_laws.proofs.EventFacts.{over_is}
+use Rattle.machine_laws.proofs.FitsKept.{turn_orderly}
+use Rattle.machine_laws.proofs.Steps.{may_step, turn_most, parked_word, placed_in}
+use Rattle.replay_core.specs.MachineView.{MachineView, program_of, configuration_of}
+use Rattle.replay_core.specs.Stepping.{HappensInside, StepDone, EventDone, TurnDone, IsDone, IsWaiting, IsWaitingAt}
 
--- what a turn did, as the definition of runs has it
-pub Turns-turn : (t : ℕ) (old new : View) (b : Bool) → Turns t old new b → IsTurn old.program old.history t new.history
-Turns-turn t old new true h = inr (record { event = h.event; thread = h.thread; lawful = h.lawful; history = h.history })
-Turns-turn t old new false h = inl (h.0, ap (λ (w : View). w.history) h.1)
+-- a machine's view, from its parts
+abbrev pub seen : View → ℕ → List ℕ → List Phase → MachineView
+seen w turn words phases = record { world = w; turn = turn; words = words; phases = phases }
 
--- the turns of two lists one after the other
-pub AreTurns-append : (p : Program) (xs ys : List ℕ) (old between new : List Event) → AreTurns p old xs between →
-    AreTurns p between ys new → AreTurns p old (xs ++ ys) new
-AreTurns-append p [] ys old between new front rest = subst (λ (h : List Event). AreTurns p h ys new) front rest
-AreTurns-append p (x ∷ xs) ys old between new front rest =
-    (front.0, front.1, AreTurns-append p xs ys front.0 between new front.2 rest)
-
-pub Turned-append : (xs ys : List ℕ) (a b c : View) → Turned xs a b → Turned ys b c → Turned (xs ++ ys) a c
-Turned-append xs ys a b c front rest =
+-- a word step, from its parts
+pub step_done : (w : View) (turn turn' : ℕ) (words words' : List ℕ) (phases phases' : List Phase) (t n : ℕ) (step : WordStep) (ph q : Phase) (due over gone : Bool) (found : StepAnswer) →
+    n ≡ length w.program.threads → phase_of (configuration_of (seen w turn words phases)) t ≡ ph → due ≡ collects (next_of w t) → over ≡ (thread_at (heap_of w) t).ended →
+    (turn' ∷ words') ≡ words_after t step (turn ∷ words) → found ≡ answer_at t step (turn ∷ words) → gone ≡ went found → q ≡ walked n t ph due over gone →
+    phases' ≡ set phases t q → StepDone t step (seen w turn words phases) (seen w turn' words' phases') found
+step_done w turn turn' words words' phases phases' t n step ph q due over gone found threads at is_due_now is_over_now words_are found_is gone_is q_is phases_are =
+    let m = seen w turn words phases in
+    let p = w.program in
+    let over_now : over ≡ has_ended p w.history t = is_over_now ∙ sym (over_is p (heap_of w) t) in
+    let e : q ≡ walked (length p.threads) t (phase_of (configuration_of m) t) (is_due p w.history t) (has_ended p w.history t) (went (answer_in (configuration_of m) t step)) =
+    q_is
+    ∙ ap (λ (x : ℕ). walked x t ph due over gone) threads
+    ∙ ap (λ (x : Phase). walked (length p.threads) t x due over gone) (sym at)
+    ∙ ap (λ (x : Bool). walked (length p.threads) t (phase_of (configuration_of m) t) x over gone) is_due_now
+    ∙ ap (λ (x : Bool). walked (length p.threads) t (phase_of (configuration_of m) t) (is_due p w.history t) x gone) over_now
+    ∙ ap (λ (x : Bool). walked (length p.threads) t (phase_of (configuration_of m) t) (is_due p w.history t) (has_ended p w.history t) x) (gone_is ∙ ap went found_is) in
     record {
-      program = rest.program ∙ front.program;
-      turns = AreTurns-append a.program xs ys a.history b.history c.history front.turns
-          (subst (λ (p : Program). AreTurns p b.history ys c.history) front.program rest.turns);
+      world = refl;
+      walks = record {
+        words = words_are;
+        phases = phases_are ∙ ap (λ (x : Phase). set phases t x) e;
+        history = refl;
+        shown = ap (λ (x : StepAnswer). step_lines t step x) found_is;
+      };
+      found_is = found_is;
     }
 
-pub Turned-none : (a : View) → Turned [] a a
-Turned-none a = record { program = refl; turns = refl }
+-- a turn, from its task
+pub walk_is_turn : (p : Program) (t : ℕ) (step : WordStep) (old new : Configuration) (lines : List ReplayLine) → task_at (phase_of old t) (is_due p old.history t) ≡ Walk step →
+    Walks p t step old lines new → IsTurn p t old lines new
+walk_is_turn p t step old new lines task w = subst (λ (x : Task). Does p t x old lines new) (sym task) w
 
-pub Turned-step : (t : ℕ) (a b : View) (s : Bool) → Turns t a b s → Turned (t ∷ []) a b
-Turned-step t a b s h = record { program = Turns-program t a b s h; turns = (b.history, Turns-turn t a b s h, refl) }
+pub event_is_turn : (p : Program) (t : ℕ) (old new : Configuration) (lines : List ReplayLine) → task_at (phase_of old t) (is_due p old.history t) ≡ Happen →
+    HasEvent p t old lines new → IsTurn p t old lines new
+event_is_turn p t old new lines task d = subst (λ (x : Task). Does p t x old lines new) (sym task) d
 
--- no turn takes anything from a history
-turn_grows : (p : Program) (t : ℕ) (old new : List Event) → IsTurn p old t new → length old ≤ length new
-turn_grows p t old new turn = elim turn [
-  | inl same ↦ omega (arith, ap length same.1)
-  | inr happened ↦ omega (arith, ap length happened.history, length_push old happened.event)
-]
+-- what a thread does, by its phase as it was read
+pub task_of : (m : MachineView) (t : ℕ) (ph : Phase) (task : Task) → phase_of (configuration_of m) t ≡ ph → task_at ph (is_due (program_of m) m.world.history t) ≡ task →
+    task_at (phase_of (configuration_of m) t) (is_due (program_of m) m.world.history t) ≡ task
+task_of m t ph task at is = ap (λ (x : Phase). task_at x (is_due (program_of m) m.world.history t)) at ∙ is
 
-pub AreTurns-grows : (p : Program) (ts : List ℕ) (old new : List Event) → AreTurns p old ts new → length old ≤ length new
-AreTurns-grows p [] old new turns = omega (arith, ap length turns)
-AreTurns-grows p (t ∷ ts) old new turns =
-    omega (arith, turn_grows p t old turns.0 turns.1, AreTurns-grows p ts turns.0 new turns.2)
+-- the configuration stays orderly
+pub walk_orderly : (m new : MachineView) (t : ℕ) (step : WordStep) (found : StepAnswer) → IsValid (program_of m) → IsOrderly (program_of m) (configuration_of m) → t < length (program_of m).threads →
+    task_at (phase_of (configuration_of m) t) (is_due (program_of m) m.world.history t) ≡ Walk step → StepDone t step m new found → IsOrderly (program_of m) (configuration_of new)
+walk_orderly m new t step found valid o l task d =
+    turn_orderly (program_of m) t (configuration_of m) (configuration_of new) (step_lines t step found) (limited (program_of m) valid) o l
+    (walk_is_turn (program_of m) t step (configuration_of m) (configuration_of new) (step_lines t step found) task d.walks)
 
--- where the history has not grown no thread had anything to do
-turn_quiet : (p : Program) (t : ℕ) (old new : List Event) → IsTurn p old t new → length new ≤ length old →
-    (next p (replay p old) t ≡ Done) × (new ≡ old)
-turn_quiet p t old new turn short = elim turn [
-  | inl same ↦ same
-  | inr happened ↦ absurd (omega (arith, ap length happened.history, length_push old happened.event))
-]
-
-pub AreTurns-quiet : (p : Program) (ts : List ℕ) (old new : List Event) → AreTurns p old ts new → length new ≤ length old →
-    (new ≡ old) × ((i d : ℕ) → i < length ts → next p (replay p old) (get_or ts i d) ≡ Done)
-AreTurns-quiet p [] old new turns short = (turns, λ i d below. absurd (omega arith))
-AreTurns-quiet p (t ∷ ts) old new turns short =
-    let grown : length turns.0 ≤ length old = omega (arith, AreTurns-grows p ts turns.0 new turns.2) in
-    let first = turn_quiet p t old turns.0 turns.1 grown in
-    let rest = AreTurns-quiet p ts old new (subst (λ (h : List Event). AreTurns p h ts new) first.1 turns.2) short in
-    (rest.0, at first.0 rest.1)
-  where
-    at : next p (replay p old) t ≡ Done → ((i d : ℕ) → i < length ts → next p (replay p old) (get_or ts i d) ≡ Done) →
-        (i d : ℕ) → i < length (t ∷ ts) → next p (replay p old) (get_or (t ∷ ts) i d) ≡ Done
-    at here there zero d below = here
-    at here there (suc i) d below = there i d (omega arith)
-
--- one turn more
-pub Turned-push : (ts : List ℕ) (t : ℕ) (a b c : View) (s : Bool) → Turned ts a b → Turns t b c s → Turned (ts ++ t ∷ []) a c
-Turned-push ts t a b c s front step = Turned-append ts (t ∷ []) a b c front (Turned-step t b c s step)
-
-range-suc : (a n m : ℕ) → a + n ≡ m → range_with_len a (suc n) ≡ range_with_len a n ++ m ∷ []
-range-suc a zero m e = ap (λ (x : ℕ). x ∷ []) (sym (add-zero a) ∙ e)
-range-suc a (suc n) m e = ap (λ (xs : List ℕ). a ∷ xs) (range-suc (a + 1) n m (omega arith))
-
-pub range-more : (n : ℕ) → range_with_len 0 (n + 1) ≡ range_with_len 0 n ++ n ∷ []
-range-more n = rw add-one (range-suc 0 n n (zero-add n))
-
--- one round more
-pub Turned-round : (k : ℕ) (a b c : View) → Turned (rounds_of (length a.program.threads) k) a b →
-    Turned (range_with_len 0 (length b.program.threads)) b c → Turned (rounds_of (length a.program.threads) (k + 1)) a c
-Turned-round k a b c front round =
-    let n = length a.program.threads in
-    let same : length b.program.threads ≡ n = ap (λ (p : Program). length p.threads) front.program in
-    rw add-one (Turned-append (rounds_of n k) (range_with_len 0 n) a b c front
-    (subst (λ (m : ℕ). Turned (range_with_len 0 m) b c) same round))
-
--- a round in which nothing happened
-quiet_round : (old new : View) → Turned (range_with_len 0 (length old.program.threads)) old new →
-    length new.history ≤ length old.history → AllDone new
-quiet_round old new turned short t below =
+-- an event inside a section, from its parts
+pub inside_done : (old new : View) (turn : ℕ) (words : List ℕ) (phases phases' : List Phase) (t : ℕ) (stays : Bool) → HappensInside t old new stays →
+    phase_of (configuration_of (seen old turn words phases)) t ≡ Inside → phases' ≡ set phases t (if stays then Inside else Leaving) →
+    EventDone t (seen old turn words phases) (seen new turn words phases')
+inside_done old new turn words phases phases' t stays d at phases_are =
+    let m = seen old turn words phases in
+    let h = d.happens in
     let n = length old.program.threads in
-    let quiet = AreTurns-quiet old.program (range_with_len 0 n) old.history new.history turned.turns short in
-    let below_n : t < n = rw turned.program at below in
-    let listed : t < length (range_with_len 0 n) = rw length-range_with_len below_n in
-    let here = quiet.1 t 0 listed in
-    let same : get_or (range_with_len 0 n) t 0 ≡ t = get_or-range_with_len 0 n t 0 below_n ∙ zero-add t in
-    rw (turned.program, quiet.0) (subst (λ (u : ℕ). next old.program (replay old.program old.history) u ≡ Done) same here)
+    let same_heap : stays ≡ stays_inside (replay old.program new.history) h.event = d.goes_on ∙ ap (λ (p : Program). stays_inside (replay p new.history) h.event) h.program in
+    record {
+      program = h.program;
+      event = record {
+        event = h.event;
+        thread = h.thread;
+        lawful = h.lawful;
+        history = h.history;
+        turn = refl;
+        words = refl;
+        phases = phases_are
+            ∙ ap (λ (b : Bool). set phases t (happened n t Inside b)) same_heap
+            ∙ ap (λ (x : Phase). set phases t (happened n t x (stays_inside (replay old.program new.history) h.event))) (sym at);
+        shown = refl;
+      };
+    }
 
-pub WasBusy-from_lengths : (old new : View) (b : Bool) → nat_lt (length old.history) (length new.history) ≡ b →
-    Turned (range_with_len 0 (length old.program.threads)) old new → WasBusy old new b
-WasBusy-from_lengths old new true e turned = ltb-true (length old.history) (length new.history) e
-WasBusy-from_lengths old new false e turned =
-    quiet_round old new turned (ltb-false (length old.history) (length new.history) e)
+-- where a section goes on its thread's phase is written again
+pub stays_written : (phases : List Phase) (t : ℕ) (m : MachineView) → m.phases ≡ phases → phase_of (configuration_of m) t ≡ Inside → phases ≡ set phases t Inside
+stays_written phases t m same at =
+    sym (ap (λ (x : Phase). set phases t x) (sym at ∙ ap (λ (ps : List Phase). get_or ps t Ended) same) ∙ set-get_or phases t Ended)
 
--- turns of threads of which each has ended
-turns_of_ended : (w : View) (ts : List ℕ) → AllDone w → All (λ t. t < length w.program.threads) ts →
-    AreTurns w.program w.history ts w.history
-turns_of_ended w [] done named = refl
-turns_of_ended w (t ∷ ts) done named =
-    (w.history, inl (done t (named 0 0 (omega arith)), refl), turns_of_ended w ts done (λ k d below. named (suc k) d (omega arith)))
+pub event_orderly : (m new : MachineView) (t : ℕ) → IsValid (program_of m) → IsOrderly (program_of m) (configuration_of m) → t < length (program_of m).threads →
+    task_at (phase_of (configuration_of m) t) (is_due (program_of m) m.world.history t) ≡ Happen → EventDone t m new → IsOrderly (program_of new) (configuration_of new)
+event_orderly m new t valid o l task d = subst (λ (p : Program). IsOrderly p (configuration_of new)) (sym d.program)
+    (turn_orderly (program_of m) t (configuration_of m) (configuration_of new) _ (limited (program_of m) valid) o l
+    (event_is_turn (program_of m) t (configuration_of m) (configuration_of new) _ task d.event))
 
--- where all threads have ended after a front of some turns all the turns were done
-pub Turned-whole : (ts : List ℕ) (i : ℕ) (a b : View) → All (λ t. t < length a.program.threads) ts → Turned (take i ts) a b →
-    AllDone b → Turned ts a b
-Turned-whole ts i a b named front done =
-    let named_b : All (λ t. t < length b.program.threads) (drop i ts) =
-    subst (λ (p : Program). All (λ t. t < length p.threads) (drop i ts)) (sym front.program)
-    (All-drop (λ t. t < length a.program.threads) i ts named) in
-    let rest : Turned (drop i ts) b b = record { program = refl; turns = turns_of_ended b (drop i ts) done named_b } in
-    subst (λ (us : List ℕ). Turned us a b) (take-append-drop i ts) (Turned-append (take i ts) (drop i ts) a b b front rest)
+-- what a turn's answer says
+pub step_turn : (m new : MachineView) (t : ℕ) (step : WordStep) (found : StepAnswer) → task_at (phase_of (configuration_of m) t) (is_due (program_of m) m.world.history t) ≡ Walk step →
+    StepDone t step m new found → TurnDone t (step_lines t step found) m new
+step_turn m new t step found task d = record {
+  program = ap (λ (w : View). w.program) d.world;
+  turn = walk_is_turn (program_of m) t step (configuration_of m) (configuration_of new) (step_lines t step found) task d.walks;
+}
+
+pub event_turn : (m new : MachineView) (t : ℕ) → task_at (phase_of (configuration_of m) t) (is_due (program_of m) m.world.history t) ≡ Happen →
+    EventDone t m new → TurnDone t (replay_lines.Event (length m.world.history) ∷ []) m new
+event_turn m new t task d = record {
+  program = d.program;
+  turn = event_is_turn (program_of m) t (configuration_of m) (configuration_of new) (replay_lines.Event (length m.world.history) ∷ []) task d.event;
+}
+
+-- a step waits just where its thread does
+pub waits_if : (p : Program) (t : ℕ) (step : WordStep) (c : Configuration) → IsOrderly p c → t < length p.threads → task_at (phase_of c t) (is_due p c.history t) ≡ Walk step →
+    (answer_in c t step ≡ answers.NotYet) ↔ IsWaiting c t
+waits_if p t step c o l task = by_phase (phase_of c t) (is_due p c.history t) refl task
+  where
+    by_phase : (ph : Phase) (due : Bool) → phase_of c t ≡ ph → task_at ph due ≡ Walk step → (answer_in c t step ≡ answers.NotYet) ↔ IsWaitingAt c t ph
+    by_phase Parked due at task =
+        let is : Resume ≡ step = cc in
+        subst (λ (s : WordStep). (answer_in c t s ≡ answers.NotYet) ↔ IsWaitingAt c t Parked) is (elim (parked_word p t c o l at) [
+          | inl four ↦ (
+            (λ e. let never : answers.Went ≡ answers.NotYet = ap (λ (x : ℕ). answer Resume x) (sym four) ∙ e in cc),
+            λ h. absurd (false≢true (ap (λ (x : ℕ). has 2 x) (sym four) ∙ h)),
+          )
+          | inr six ↦ ((λ e. ap (λ (x : ℕ). has 2 x) six), λ h. ap (λ (x : ℕ). answer Resume x) six)
+        ])
+    by_phase Outside true at task =
+        let is : Claim ≡ step = cc in
+        subst (λ (s : WordStep). (answer_in c t s ≡ answers.NotYet) ↔ ⊥) is ((λ e. claims (c.turn == 0) e), λ h. absurd h)
+      where
+        claims : (b : Bool) → (if b then answers.Went else answers.Taken (c.turn - 1)) ≡ answers.NotYet → ⊥
+        claims true e = cc
+        claims false e = cc
+    by_phase Outside false at task =
+        let is : Enter ≡ step = cc in
+        subst (λ (s : WordStep). (answer_in c t s ≡ answers.NotYet) ↔ ⊥) is ((λ e. enters (word_in c t == 0) e), λ h. absurd h)
+      where
+        enters : (b : Bool) → (if b then answers.Went else answers.StopFound) ≡ answers.NotYet → ⊥
+        enters true e = cc
+        enters false e = cc
+    by_phase Inside due at task = cc
+    by_phase Leaving due at task =
+        let is : Leave ≡ step = cc in
+        subst (λ (s : WordStep). (answer_in c t s ≡ answers.NotYet) ↔ ⊥) is ((λ e. leaves (has 2 (word_in c t)) e), λ h. absurd h)
+      where
+        leaves : (b : Bool) → (if b then answers.StopFound else answers.Went) ≡ answers.NotYet → ⊥
+        leaves true e = cc
+        leaves false e = cc
+    by_phase Parking due at task =
+        let is : Park ≡ step = cc in
+        subst (λ (s : WordStep). (answer_in c t s ≡ answers.NotYet) ↔ ⊥) is ((λ (e : answers.Went ≡ answers.NotYet). cc), λ h. absurd h)
+    by_phase (Posting v) due at task =
+        let is : Post v ≡ step = cc in
+        subst (λ (s : WordStep). (answer_in c t s ≡ answers.NotYet) ↔ ⊥) is ((λ e. posts (has 1 (word_in c v)) e), λ h. absurd h)
+      where
+        posts : (b : Bool) → (if b then answers.Inside else answers.Went) ≡ answers.NotYet → ⊥
+        posts true e = cc
+        posts false e = cc
+    by_phase (Looking v) due at task =
+        let is : Look v ≡ step = cc in
+        subst (λ (s : WordStep). (answer_in c t s ≡ answers.NotYet) ↔ (has 4 (word_in c v) ≡ false)) is ((λ e. looks (has 4 (word_in c v)) e), λ h. ap (λ (b : Bool). if b then answers.Went else answers.NotYet) h)
+      where
+        looks : (b : Bool) → (if b then answers.Went else answers.NotYet) ≡ answers.NotYet → b ≡ false
+        looks true e = cc
+        looks false e = refl
+    by_phase Collecting due at task = cc
+    by_phase (Releasing v) due at task =
+        let is : Release v ≡ step = cc in
+        subst (λ (s : WordStep). (answer_in c t s ≡ answers.NotYet) ↔ ⊥) is ((λ (e : answers.Went ≡ answers.NotYet). cc), λ h. absurd h)
+    by_phase Returning due at task =
+        let is : Return ≡ step = cc in
+        subst (λ (s : WordStep). (answer_in c t s ≡ answers.NotYet) ↔ ⊥) is ((λ (e : answers.Went ≡ answers.NotYet). cc), λ h. absurd h)
+    by_phase Ended due at task = cc
+
+-- a thread that walks is not at its end
+pub walks_on : (m : MachineView) (t : ℕ) (step : WordStep) → task_at (phase_of (configuration_of m) t) (is_due (program_of m) m.world.history t) ≡ Walk step → phase_of (configuration_of m) t ≢ Ended
+walks_on m t step task ended = (let never : Rest ≡ Walk step = ap (λ (x : Phase). task_at x (is_due (program_of m) m.world.history t)) (sym ended) ∙ task in cc)

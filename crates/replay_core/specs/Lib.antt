@@ -1,3 +1,5 @@
 pub mod Parcels
+pub mod MachineView
+pub mod MachineSound
 pub mod Stepping
 pub mod Runs

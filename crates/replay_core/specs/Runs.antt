@@ -1,37 +1,39 @@
--- What many turns make of a World.
-use Rattle.std.specs.Prelude.{◌≡◌, ℕ, ◌<◌, List, ◌++◌, length, Bool, true, false}
-use Rattle.heap_terms.specs.declared.pages.Next.TheVariants.{Done}
+-- What many turns make of a machine.
+use Rattle.std.specs.Prelude.{◌≡◌, ℕ, List, ◌++◌, length, Option, Some, None}
 use Rattle.heap_terms.specs.declared.events.Event.{Event}
 use Rattle.heap_terms.specs.declared.programs.Program.{Program}
 use Rattle.heap_terms.specs.declared.steps.ReplayLine.{ReplayLine}
-use Rattle.heap_terms.specs.Schedules.{AreTurns, IsRun, rounds_of}
-use Rattle.lisp_heap.specs.View.{View, next_of}
+use Rattle.heap_terms.specs.Runs.{AreTurns, IsRun, rounds_of}
+use Rattle.replay_core.specs.MachineView.{MachineView, program_of, configuration_of}
+use Rattle.replay_core.specs.Stepping.{AllEnded}
 
--- the turns of a list of threads were done, one after the other, and the program is the same
-pub record Turned (threads : List ℕ) (old new : View) : Type 0 where
-  pub program : new.program ≡ old.program
-  pub turns : AreTurns old.program old.history threads new.history
+-- the turns of a list of threads were done, one after the other, with these lines, and the program is the same
+pub record Turned (threads : List ℕ) (lines : List ReplayLine) (old new : MachineView) : Type 0 where
+  pub program : program_of new ≡ program_of old
+  pub turns : AreTurns (program_of old) threads (configuration_of old) lines (configuration_of new)
 
--- every thread has ended
-abbrev pub AllDone : View → Type 0
-AllDone w = (t : ℕ) → t < length w.program.threads → next_of w t ≡ Done
+-- lines are added to those that are kept, if any are
+abbrev pub Keeps : Option (List ReplayLine) → List ReplayLine → Option (List ReplayLine) → Type 0
+Keeps None lines new = new ≡ None
+Keeps (Some kept) lines new = new ≡ Some (kept ++ lines)
 
--- whether something happened in a round of all threads: where nothing did, every thread has ended
-abbrev pub WasBusy : View → View → Bool → Type 0
-WasBusy old new true = length old.history < length new.history
-WasBusy old new false = AllDone new
+-- the turns of a list of threads were done, and their lines were kept if somebody asks for them
+pub record TurnedKept (threads : List ℕ) (old new : MachineView) (kept after : Option (List ReplayLine)) : Type 0 where
+  pub lines : List ReplayLine
+  pub turned : Turned threads lines old new
+  pub keeps : Keeps kept lines after
 
--- some whole rounds of all threads were done, and every thread has ended
-pub record RoundsDone (old new : View) : Type 0 where
+-- and so were some whole rounds of all threads, until every thread had ended
+pub record RoundsDone (old new : MachineView) (kept after : Option (List ReplayLine)) : Type 0 where
   pub rounds : ℕ
-  pub turned : Turned (rounds_of (length old.program.threads) rounds) old new
-  pub done : AllDone new
+  pub turned : TurnedKept (rounds_of (length (program_of old).threads) rounds) old new kept after
+  pub done : AllEnded new
 
 -- the turns of the schedule and some whole rounds of all threads were done, and every thread has ended
-pub record RunsWhole (old new : View) : Type 0 where
+pub record RunsWhole (old new : MachineView) (kept after : Option (List ReplayLine)) : Type 0 where
   pub rounds : ℕ
-  pub turned : Turned (old.program.schedule ++ rounds_of (length old.program.threads) rounds) old new
-  pub done : AllDone new
+  pub turned : TurnedKept ((program_of old).schedule ++ rounds_of (length (program_of old).threads) rounds) old new kept after
+  pub done : AllEnded new
 
 -- a history is that of a run of a program, whose lines nobody keeps
 pub record RunsTo (p : Program) (h : List Event) : Type 0 where

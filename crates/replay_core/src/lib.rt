@@ -6,8 +6,7 @@
 mod machine;
 mod rounds;
 mod runs;
-#[cfg(test)]
-mod tests;
+mod tables;
 mod turns;
 
 pub use heap_terms::{ReplayLine, WordLine};

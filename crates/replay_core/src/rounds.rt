@@ -1,12 +1,13 @@
-//! Many turns: those of the schedule, and rounds of all threads until each has ended.
+//! Many turns: those of the schedule, and rounds of all threads until each has ended. Their lines
+//! are kept where somebody asks for them.
 
-ghost use Rattle.std.specs.Prelude.{◌≡◌, ◌<◌, ◌^◌, length, OnOk, IfOk, IsTrue, map};
+ghost use Rattle.std.specs.Prelude.{◌≡◌, ◌<◌, [], ◌∷◌, ◌++◌, length, OnOk, Some};
 ghost use Rattle.std.specs.List.{range_with_len};
-ghost use Rattle.replay_core.specs.Runs.{AllDone, Turned, WasBusy, RoundsDone};
+ghost use Rattle.replay_core.specs.MachineView.{program_of};
+ghost use Rattle.replay_core.specs.Runs.{TurnedKept, RoundsDone};
 
-use crate::machine::Machine;
-use heap_terms::{Memory, Next, ReplayLine, Seq};
-use std::alloc::Global;
+use crate::machine::{Machine, Stepped};
+use heap_terms::{Memory, ReplayLine, Seq};
 
 /// The lines of a run.
 pub type Lines = Seq<ReplayLine>;
@@ -14,73 +15,75 @@ pub type Lines = Seq<ReplayLine>;
 /// How many turns of the schedule there are between two looks at whether threads are left.
 const TURNS_BETWEEN_LOOKS: usize = 1024;
 
-/// Whether every thread has ended.
-fn all_have_ended(machine: &Machine) -> bool
-    ensures { IsTrue result → AllDone machine.now }
+/// One turn of thread t.
+#[inline(always)]
+fn turn(machine: &mut Machine, kept: &mut Option<Lines>, t: u32) -> Result<(), Memory>
+    requires { t < length (program_of machine.old).threads }
+    ensures { OnOk result (TurnedKept (t ∷ []) machine.old machine.new kept.old kept.new) }
 {
-    let world = machine.world();
-    for t in 0..world.threads() {
-        let Next::Done = world.next(t) else {
-            return false;
-        };
+    match kept {
+        None => machine.turn(t),
+        Some(lines) => keep_turn(machine, lines, t),
     }
-    true
+}
+
+/// The same, with its line.
+#[cold]
+#[inline(never)]
+fn keep_turn(machine: &mut Machine, lines: &mut Lines, t: u32) -> Result<(), Memory>
+    requires { t < length (program_of machine.old).threads }
+    ensures { OnOk result (TurnedKept (t ∷ []) machine.old machine.new (Some lines.old) (Some lines.new)) }
+{
+    let events = machine.world().history().len() as u32;
+    match machine.step(t)? {
+        Stepped::Word(line) => keep(lines, ReplayLine::Word(line)),
+        Stepped::Happened => keep(lines, ReplayLine::Event(events)),
+        Stepped::Waits | Stepped::Ended => Ok(()),
+    }
+}
+
+/// Adds a line.
+fn keep(lines: &mut Lines, line: ReplayLine) -> Result<(), Memory>
+    ensures { OnOk result (lines.new ≡ lines.old ++ line ∷ []) }
+{
+    match lines.push(line) {
+        Ok(()) => Ok(()),
+        Err(_) => Err(Memory),
+    }
 }
 
 /// The turns of the schedule. Turns after all threads have ended do nothing, so most of them are
 /// not taken.
-pub fn schedule_turns(machine: &mut Machine) -> Result<(), Memory>
-    ensures { OnOk result (Turned machine.old.program.schedule machine.old machine.new) }
+pub fn schedule_turns(machine: &mut Machine, kept: &mut Option<Lines>) -> Result<(), Memory>
+    ensures { OnOk result (TurnedKept (program_of machine.old).schedule machine.old machine.new kept.old kept.new) }
 {
     for i in 0..machine.world().program().schedule.len() {
-        if i % TURNS_BETWEEN_LOOKS == 0 && all_have_ended(machine) {
+        if i % TURNS_BETWEEN_LOOKS == 0 && machine.has_ended() {
             break;
         }
         let t = machine.world().program().schedule.at(i);
-        let _happened = machine.turn(t)?;
+        turn(machine, kept, t)?;
     }
     Ok(())
 }
 
 /// One turn of each thread: 0, 1, and so on.
-fn each_in_turn(machine: &mut Machine) -> Result<(), Memory>
+fn each_in_turn(machine: &mut Machine, kept: &mut Option<Lines>) -> Result<(), Memory>
     ensures { OnOk result
-        (Turned (range_with_len 0 (length machine.old.program.threads)) machine.old machine.new) }
+        (TurnedKept (range_with_len 0 (length (program_of machine.old).threads)) machine.old machine.new kept.old kept.new) }
 {
     for t in 0..machine.world().threads() {
-        let _happened = machine.turn(t)?;
+        turn(machine, kept, t)?;
     }
     Ok(())
-}
-
-/// One round of all threads, and whether something happened in it.
-fn round(machine: &mut Machine) -> Result<bool, Memory>
-    ensures turned { OnOk result
-        (Turned (range_with_len 0 (length machine.old.program.threads)) machine.old machine.new) }
-    ensures busy { IfOk result (WasBusy machine.old machine.new) }
-    ensures short { OnOk result (length machine.new.history < 2 ^ 32) }
-{
-    let before = machine.world().history().len();
-    each_in_turn(machine)?;
-    Ok(machine.world().history().len() > before)
 }
 
 /// Rounds of all threads until each has ended.
-pub fn rounds(machine: &mut Machine) -> Result<(), Memory>
-    ensures { OnOk result (RoundsDone machine.old machine.new) }
+pub fn rounds(machine: &mut Machine, kept: &mut Option<Lines>) -> Result<(), Memory>
+    ensures { OnOk result (RoundsDone machine.old machine.new kept.old kept.new) }
 {
-    while round(machine)? {}
-    Ok(())
-}
-
-/// The numbers of so many events, as lines.
-pub fn event_lines(alloc: Global, events: u32) -> Result<Lines, Memory>
-    ensures { IfOk result
-        (λ lines. lines ≡ map (λ number. ReplayLine.Event number) (range_with_len 0 events)) }
-{
-    let mut lines = Vec::with_capacity(alloc, events as usize)?;
-    for number in 0..events {
-        lines.push_reserved(ReplayLine::Event(number));
+    while !machine.has_ended() {
+        each_in_turn(machine, kept)?;
     }
-    Ok(Lines::from_vec(lines))
+    Ok(())
 }

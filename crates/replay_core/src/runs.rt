@@ -1,12 +1,12 @@
 //! A whole run of a program.
 
 ghost use Rattle.std.specs.Prelude.{◌≡◌, IfOk, OnOk};
-ghost use Rattle.heap_terms.specs.Schedules.{IsRun};
+ghost use Rattle.heap_terms.specs.Runs.{IsRun};
 ghost use Rattle.heap_terms.specs.Valid.{IsValid};
 ghost use Rattle.replay_core.specs.Runs.{RunsTo, RunsWhole};
 
 use crate::machine::Machine;
-use crate::rounds::{Lines, event_lines, rounds, schedule_turns};
+use crate::rounds::{Lines, rounds, schedule_turns};
 use heap_terms::{Memory, Program};
 use lisp_heap::World;
 use std::alloc::Global;
@@ -16,7 +16,7 @@ use std::alloc::Global;
 pub struct Replay {
     /// The heap after its last event.
     pub world: World,
-    /// The numbers of the events, from 0 on, until the word machine is built.
+    /// The word steps, and the numbers of the events, in their order.
     pub lines: Lines,
 }
 
@@ -28,9 +28,15 @@ pub fn run_schedule(alloc: Global, program: Program) -> Result<Replay, Memory>
     ensures program { IfOk result (λ replay. replay.world.program ≡ program) }
     ensures run { IfOk result (λ replay. IsRun program replay.lines replay.world.history) }
 {
-    let world = run_history(alloc, program)?;
-    let lines = event_lines(alloc, world.history().len() as u32)?;
-    Ok(Replay { world, lines })
+    let mut machine = Machine::new(alloc, program)?;
+    let mut kept = Some(Lines::new(alloc));
+    let ran = run(&mut machine, &mut kept);
+    let world = machine.into_world();
+    ran?;
+    match kept {
+        Some(lines) => Ok(Replay { world, lines }),
+        None => Err(Memory),
+    }
 }
 
 /// Runs a valid program in the same way, and keeps no lines: there are lines with which its history
@@ -41,18 +47,17 @@ pub fn run_history(alloc: Global, program: Program) -> Result<World, Memory>
     ensures run { IfOk result (λ world. RunsTo program world.history) }
 {
     let mut machine = Machine::new(alloc, program)?;
-    let ran = run(&mut machine);
+    let mut kept = None;
+    let ran = run(&mut machine, &mut kept);
     let world = machine.into_world();
     ran?;
-    // That its history is lawful is what the World tells with it.
-    let _history = world.history();
     Ok(world)
 }
 
 /// All turns of a run.
-fn run(machine: &mut Machine) -> Result<(), Memory>
-    ensures { OnOk result (RunsWhole machine.old machine.new) }
+fn run(machine: &mut Machine, kept: &mut Option<Lines>) -> Result<(), Memory>
+    ensures { OnOk result (RunsWhole machine.old machine.new kept.old kept.new) }
 {
-    schedule_turns(machine)?;
-    rounds(machine)
+    schedule_turns(machine, kept)?;
+    rounds(machine, kept)
 }

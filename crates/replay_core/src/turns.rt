@@ -1,22 +1,37 @@
-//! One turn of one thread, by what it does next. Each function answers whether something happened.
+//! One event of one thread inside its section, by what it does next. Each function answers whether
+//! the section goes on.
 
-ghost use Rattle.std.specs.Prelude.{◌≡◌, ℕ, ◌<◌, length, OnErr, OnOk, IfOk};
+ghost use Rattle.std.specs.Prelude.{◌≡◌, ℕ, ◌<◌, length, false, OnErr, OnOk, IfOk};
 ghost use Rattle.heap_terms.specs.declared.kinds.Kind.{Kind};
 ghost use Rattle.heap_terms.specs.declared.pages.Next.{Next};
+ghost use Rattle.heap_terms.specs.Phases.{collects, is_over};
 ghost use Rattle.lisp_heap.specs.Agreement.{Agrees, CanBuild, OthersAgree};
-ghost use Rattle.lisp_heap.specs.Events.{Happens};
 ghost use Rattle.lisp_heap.specs.View.{heap_of, next_of};
-ghost use Rattle.replay_core.specs.Stepping.{Turns};
+ghost use Rattle.replay_core.specs.Stepping.{HappensInside};
 
 use heap_terms::{Kind, Memory, Next, Owned};
-use lisp_heap::{Parcel, World};
+use lisp_heap::{Lent, Parcel, World};
 
-/// One turn of the parcel's owner: whether something happened, which is so unless it has ended. For
+/// Whether a collection is due for thread t. No command that is built makes a thread owe one.
+#[inline(always)]
+pub(crate) fn is_due(world: &World, t: u32) -> bool
+    ensures { result ≡ collects (next_of world.now t) }
+{
+    // That a history is lawful is what rules a collection out.
+    let _history = world.history();
+    let _thread = t;
+    false
+}
+
+/// One event of the parcel's owner, which has not ended and for which no collection is due. For
 /// want of memory the World is as it was.
-pub fn turn(world: &mut World, parcel: &mut Parcel) -> Result<bool, Memory>
+#[inline(always)]
+pub(crate) fn event(world: &mut World, parcel: &mut Parcel) -> Result<bool, Memory>
     requires thread { parcel.old.owner < length world.old.program.threads }
     requires agrees { Agrees (heap_of world.old) parcel.old }
-    ensures ok { IfOk result (Turns parcel.old.owner world.old world.new) }
+    requires free { collects (next_of world.old parcel.old.owner) ≡ false }
+    requires alive { is_over (next_of world.old parcel.old.owner) ≡ false }
+    ensures ok { IfOk result (HappensInside parcel.old.owner world.old world.new) }
     ensures agrees { Agrees (heap_of world.new) parcel.new }
     ensures others { OthersAgree (heap_of world.old) (heap_of world.new) parcel.old.owner }
     ensures owner { parcel.new.owner ≡ parcel.old.owner }
@@ -26,45 +41,47 @@ pub fn turn(world: &mut World, parcel: &mut Parcel) -> Result<bool, Memory>
         Next::Simple => perform(world, parcel),
         Next::Open => lend(world, parcel),
         Next::Build { kind, n, seed } => commit(world, parcel, kind, n, seed),
-        Next::Collect(_) => collect(world, parcel),
         Next::End => end(world, parcel),
-        Next::Done => Ok(false),
+        Next::Collect(_) | Next::Done => unreachable!(),
     }
 }
 
-/// The turn of a thread whose next command allocates nothing.
+/// The event of a thread whose next command allocates nothing.
 fn perform(world: &mut World, parcel: &mut Parcel) -> Result<bool, Memory>
     requires thread { parcel.old.owner < length world.old.program.threads }
     requires agrees { Agrees (heap_of world.old) parcel.old }
     requires simple { next_of world.old parcel.old.owner ≡ Next.Simple }
-    ensures ok { IfOk result (Turns parcel.old.owner world.old world.new) }
+    ensures ok { IfOk result (HappensInside parcel.old.owner world.old world.new) }
     ensures agrees { Agrees (heap_of world.new) parcel.new }
     ensures others { OthersAgree (heap_of world.old) (heap_of world.new) parcel.old.owner }
     ensures owner { parcel.new.owner ≡ parcel.old.owner }
     ensures err { OnErr result (world.new ≡ world.old) }
 {
-    world.perform(parcel.owner())?;
-    Ok(true)
+    let t = parcel.owner();
+    world.perform(t)?;
+    Ok(world.inhibits(t))
 }
 
-/// The turn of a thread that needs a region for its next object.
+/// The event of a thread that needs a region for its next object.
 #[cold]
 #[inline(never)]
 fn lend(world: &mut World, parcel: &mut Parcel) -> Result<bool, Memory>
     requires thread { parcel.old.owner < length world.old.program.threads }
     requires agrees { Agrees (heap_of world.old) parcel.old }
     requires opens { next_of world.old parcel.old.owner ≡ Next.Open }
-    ensures ok { IfOk result (Turns parcel.old.owner world.old world.new) }
+    ensures ok { IfOk result (HappensInside parcel.old.owner world.old world.new) }
     ensures agrees { Agrees (heap_of world.new) parcel.new }
     ensures others { OthersAgree (heap_of world.old) (heap_of world.new) parcel.old.owner }
     ensures owner { parcel.new.owner ≡ parcel.old.owner }
     ensures err { OnErr result (world.new ≡ world.old) }
 {
-    let _lent = world.lend(parcel)?;
-    Ok(true)
+    match world.lend(parcel)? {
+        Lent::Opened => Ok(true),
+        Lent::Exhausted => Ok(world.inhibits(parcel.owner())),
+    }
 }
 
-/// The turn of a thread whose regions have room for its next object.
+/// The event of a thread whose regions have room for its next object.
 fn commit(
     world: &mut World,
     parcel: &mut Parcel,
@@ -76,7 +93,7 @@ fn commit(
     requires agrees { Agrees (heap_of world.old) parcel.old }
     requires builds { next_of world.old parcel.old.owner ≡ Next.Build kind n seed }
     requires room { CanBuild (Next.Build kind n seed) parcel.old }
-    ensures ok { IfOk result (Turns parcel.old.owner world.old world.new) }
+    ensures ok { IfOk result (HappensInside parcel.old.owner world.old world.new) }
     ensures agrees { Agrees (heap_of world.new) parcel.new }
     ensures others { OthersAgree (heap_of world.old) (heap_of world.new) parcel.old.owner }
     ensures owner { parcel.new.owner ≡ parcel.old.owner }
@@ -84,38 +101,22 @@ fn commit(
 {
     parcel.build(kind, n, seed);
     let _name = world.commit(parcel)?;
-    Ok(true)
+    Ok(world.inhibits(parcel.owner()))
 }
 
-/// The turn of a thread that owes a collection. No command that is built makes a thread owe one.
-#[cold]
-#[inline(never)]
-fn collect(world: &mut World, parcel: &mut Parcel) -> Result<bool, Memory>
-    requires collects { (last : ℕ) × (next_of world.old parcel.old.owner ≡ Next.Collect last) }
-    ensures ok { IfOk result (Turns parcel.old.owner world.old world.new) }
-    ensures agrees { Agrees (heap_of world.new) parcel.new }
-    ensures others { OthersAgree (heap_of world.old) (heap_of world.new) parcel.old.owner }
-    ensures owner { parcel.new.owner ≡ parcel.old.owner }
-    ensures err { OnErr result (world.new ≡ world.old) }
-{
-    // That a history is lawful is what rules this turn out.
-    let _history = world.history();
-    unreachable!()
-}
-
-/// The turn of a thread that has no command left.
+/// The event of a thread that has no command left.
 #[cold]
 #[inline(never)]
 fn end(world: &mut World, parcel: &mut Parcel) -> Result<bool, Memory>
     requires thread { parcel.old.owner < length world.old.program.threads }
     requires agrees { Agrees (heap_of world.old) parcel.old }
     requires ends { next_of world.old parcel.old.owner ≡ Next.End }
-    ensures ok { IfOk result (Turns parcel.old.owner world.old world.new) }
+    ensures ok { IfOk result (HappensInside parcel.old.owner world.old world.new) }
     ensures agrees { Agrees (heap_of world.new) parcel.new }
     ensures others { OthersAgree (heap_of world.old) (heap_of world.new) parcel.old.owner }
     ensures owner { parcel.new.owner ≡ parcel.old.owner }
     ensures err { OnErr result (world.new ≡ world.old) }
 {
     world.end(parcel)?;
-    Ok(true)
+    Ok(world.inhibits(parcel.owner()))
 }

@@ -1,12 +1,12 @@
-use Rattle.std.proofs.Common.{ℕ, List, subst, sym}
+use Rattle.std.proofs.Common.{ℕ, List, [], ◌∷◌, sym, subst}
 use Rattle.std.specs.List.{range_with_len}
-use Rattle.replay_core.specs.Runs.{Turned}
-use Rattle.replay_core.proofs.Turning.{Turned-push, range-more}
+use Rattle.replay_core.specs.Runs.{TurnedKept}
+use Rattle.replay_core.proofs.Many.{TurnedKept-append, range-more}
 use Rattle.replay_core.proofs.rounds.each_in_turn.Goals as goal
 
 pub loop-t-preserved : goal.loop-t-preserved
 loop-t-preserved c =
     let t = c.loop-t.t in
-    let start = c.args.machine.now in
-    subst (λ (ts : List ℕ). Turned ts start c.turn.new.self) (sym (range-more t))
-    (Turned-push (range_with_len 0 t) t start c.loop-t.machine c.turn.new.self c.in_ok-_happened._happened c.loop-t.invariant c.in_ok-_happened.ensures.ok)
+    subst (λ (ts : List ℕ). TurnedKept ts c.args.machine.now c.turn.new.machine c.args.kept.now c.turn.new.kept) (sym (range-more t))
+    (TurnedKept-append (range_with_len 0 t) (t ∷ []) c.args.machine.now c.loop-t.machine c.turn.new.machine c.args.kept.now c.loop-t.kept c.turn.new.kept
+    c.loop-t.invariant c.in_ok-turn.ensures)

@@ -1,18 +1,13 @@
-use Rattle.std.proofs.Common.{◌<◌, ◌^◌, List, length, sym, subst, rules}
-use Rattle.heap_terms.specs.declared.events.Event.{Event}
-use Rattle.replay_core.proofs.Laws.{history_most}
-use Rattle.replay_core.proofs.Whole.{numbered_run}
+use Rattle.std.proofs.Common.{List, [], Option, Some, subst}
+use Rattle.heap_terms.specs.declared.steps.ReplayLine.{ReplayLine}
+use Rattle.replay_core.specs.Runs.{RunsWhole}
+use Rattle.replay_core.proofs.Whole.{kept_run}
 use Rattle.replay_core.proofs.runs.run_schedule.Goals as goal
 
-pub overflow_cast-history : goal.overflow_cast-history
-overflow_cast-history c =
-    let w = c.in_ok-world.world in
-    let short : length c.history.result.now < 2 ^ 32 =
-    subst (λ (h : List Event). length h < 2 ^ 32) (sym c.history.ensures.history)
-    (history_most w.program w.history c.history.ensures.valid c.history.ensures.lawful) in
-    search (rules, short)
-
-pub returns-clause-run : goal.returns-clause-run
-returns-clause-run c =
-    numbered_run c.args.program c.in_ok-world.world.history c.history.result.now c.in_ok-lines.lines
-    c.in_ok-world.ensures.run c.history.ensures.history c.in_ok-lines.ensures
+pub returns-in-Some-clause-run : goal.returns-in-Some-clause-run
+returns-in-Some-clause-run c =
+    let a = c.in_ok-machine.machine in
+    let b = c.run-ran.new.machine in
+    let from : RunsWhole a b (Some []) c.run-ran.new.kept = subst (λ (ls : List ReplayLine). RunsWhole a b (Some ls) c.run-ran.new.kept) c.new-2.ensures c.in_ok-ran.ensures in
+    let run : RunsWhole a b (Some []) (Some c.in-Some.lines) = subst (λ (k : Option (List ReplayLine)). RunsWhole a b (Some []) k) c.in-Some.is from in
+    kept_run c.args.program a b c.into_world-world.result c.in-Some.lines c.in_ok-machine.ensures.program c.in_ok-machine.ensures.start run c.into_world-world.ensures

@@ -1,21 +1,28 @@
-use Rattle.std.proofs.Common.{◌≡◌, ℕ, ◌<◌, length, subst, sym, ap, ◌∙◌}
-use Rattle.lisp_heap.specs.Agreement.{OthersAgree}
-use Rattle.lisp_heap.specs.ParcelView.{ParcelView}
-use Rattle.lisp_heap.specs.View.{View, heap_of}
-use Rattle.replay_core.proofs.Ready.{ready_after, turn-program}
+use Rattle.std.proofs.Common.{◌≡◌, ℕ, ◌∷◌, [], sym, ◌∙◌, subst, ap}
+use Rattle.std.proofs.lemmas.Result.{on_ok_weaker}
+use Rattle.heap_terms.specs.declared.phases.Task.{Task}
+use Rattle.heap_terms.specs.declared.phases.Task.TheVariants.{Walk, Happen, Rest}
+use Rattle.heap_terms.specs.MachineTurns.{step_lines}
+use Rattle.replay_core.specs.MachineView.{MachineView}
+use Rattle.replay_core.specs.Stepping.{IsDone, EventDone}
+use Rattle.replay_core.proofs.Asking.{found_task}
+use Rattle.replay_core.proofs.Turning.{step_turn, event_turn}
 use Rattle.replay_core.proofs.machine.Machine.turn.Goals as goal
 
-pub invariant_of-self : goal.invariant_of-self
-invariant_of-self c =
-    let ps = c.self.inside.parcels.items in
-    let t = c.args.t in
-    let old = c.self.inside.world in
-    let new = c.turn.new.world in
-    let before = c.index_mut-parcel.result.now in
-    let below : t < length old.program.threads = subst (λ (w : View). t < length w.program.threads) (sym c.self.view_is) c.requires in
-    let inside : t < length ps = subst (λ (n : ℕ). t < n) (sym c.self.invariant.count) below in
-    let owner : before.owner ≡ t = ap (λ (q : ParcelView). q.owner) c.index_mut-parcel.ensures.value ∙ c.self.invariant.owners t before inside in
-    ready_after old new ps t c.turn.new.parcel c.self.invariant inside
-    (turn-program before.owner old new c.turn.result c.turn.ensures.ok c.turn.ensures.err)
-    (c.turn.ensures.owner ∙ owner) c.turn.ensures.agrees
-    (subst (λ (u : ℕ). OthersAgree (heap_of old) (heap_of new) u) owner c.turn.ensures.others)
+pub returns-in-Walk-clause-ok : goal.returns-in-Walk-clause-ok
+returns-in-Walk-clause-ok c =
+    let task = found_task c.self.inside c.args.self.now c.args.t c.at-phase.result c.is_due.result (Walk c.in-Walk.step) c.self.view_is c.self.invariant c.requires
+    c.at-phase.ensures c.is_due.ensures (sym c.task_for.ensures ∙ c.in-Walk.is) in
+    record {
+      lines = step_lines c.args.t c.in-Walk.step c.walk-answer.result;
+      done = step_turn c.args.self.now c.walk-answer.new.self c.args.t c.in-Walk.step c.walk-answer.result task c.walk-answer.ensures;
+    }
+
+pub returns-in-Happen-clause-ok : goal.returns-in-Happen-clause-ok
+returns-in-Happen-clause-ok c =
+    let task = found_task c.self.inside c.args.self.now c.args.t c.at-phase.result c.is_due.result Happen c.self.view_is c.self.invariant c.requires
+    c.at-phase.ensures c.is_due.ensures (sym c.task_for.ensures ∙ c.in-Happen.is) in
+    on_ok_weaker c.happen.result (λ (d : EventDone c.args.t c.args.self.now c.happen.new.self). record {
+      lines = _;
+      done = event_turn c.args.self.now c.happen.new.self c.args.t task d;
+    }) c.happen.ensures.ok
