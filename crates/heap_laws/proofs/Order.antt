@@ -2,4 +2,3 @@
 pub mod ScriptsInOrder
 pub mod Determined
 pub mod RunsAsRelation
-pub mod OneRun

@@ -13,16 +13,12 @@ use Rattle.heap_terms.specs.declared.events.Event.{Event}
 use Rattle.heap_terms.specs.declared.events.Event.TheVariants.{Did, Opened, Collected, Ended}
 use Rattle.heap_terms.specs.declared.kinds.Kind.{Kind}
 use Rattle.heap_terms.specs.declared.programs.Program.{Program}
-use Rattle.heap_terms.specs.declared.steps.ReplayLine.{ReplayLine}
 use Rattle.heap_terms.specs.Cells.{cell_value}
 use Rattle.heap_terms.specs.Heap.{NamedHeap, object_at, thread_at}
 use Rattle.heap_terms.specs.Histories.{IsNext, after, advance, Lawful, replay}
 use Rattle.heap_terms.specs.Objects.{Object, ConsOf, kind_of}
 use Rattle.heap_terms.specs.Referents.{fields_at}
-use Rattle.heap_terms.specs.Schedules.{IsRun}
-use Rattle.heap_terms.specs.Text.{journal_text}
 use Rattle.heap_terms.specs.Valid.{IsValid}
-use Rattle.heap_laws.specs.Order.{orders_of}
 
 -- after a `put` that is done, whoever gets that field of that object, through whatever cell, is answered the value that
 -- was put
@@ -105,27 +101,3 @@ NamesAreFresh = (p : Program) (h : List Event) → Lawful p h → names_of h ≡
 abbrev pub RefusalsChangeNothing : Type 0
 RefusalsChangeNothing = (p : Program) (a : NamedHeap) (t : ℕ) (c : Command) (why : Refusal) → IsNext p a (Did t c (answers.Refused why)) →
     after p a (Did t c (answers.Refused why)) ≡ advance a t
-
--- whether an event is a collection
-abbrev pub is_collection : Event → Bool
-is_collection (Did t c answer) = false
-is_collection (Opened t ty first k) = false
-is_collection (Collected t last passes) = true
-is_collection (Ended t) = false
-
--- the orders in which the collections of a history took their names, collection after collection
-abbrev pub orders_in : List Event → List (List (List ℕ))
-orders_in h = map orders_of (filter is_collection h)
-
--- no collection is among these events
-abbrev pub HasNoCollection : List Event → Type 0
-HasNoCollection h = All (λ e. is_collection e ≡ false) h
-
--- one script and the orders in which its collections took their names have one history, and so one journal; where there
--- are no collections the script alone has one
-abbrev pub OneScriptOneJournal : Type 0
-OneScriptOneJournal =
-    ((p : Program) (lines more : List ReplayLine) (h g : List Event) → IsRun p lines h → IsRun p more g → orders_in h ≡ orders_in g →
-    (h ≡ g) × (lines ≡ more) × (journal_text h ≡ journal_text g))
-    × ((p : Program) (lines more : List ReplayLine) (h g : List Event) → IsRun p lines h → IsRun p more g → HasNoCollection h → HasNoCollection g →
-    (h ≡ g) × (lines ≡ more) × (journal_text h ≡ journal_text g))

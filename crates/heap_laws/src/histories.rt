@@ -1,6 +1,5 @@
 //! Laws of lawful histories.
 
-ghost use Rattle.heap_laws.specs.CommandLaws.{OneScriptOneJournal};
 ghost use Rattle.heap_laws.specs.Laws.{HistoriesGrow, HistoriesEnd, ThreadsGoOn, HistoriesGoOn, HistoriesComplete, RunsAreLawful, ScriptsAreDone, EventsArePlain, OrderDetermines};
 
 /// An event that may come next makes a lawful history one longer, and the heap at its end is the
@@ -56,11 +55,4 @@ pub fn events_are_plain()
 /// same. Until collections are built the order of the threads is enough.
 pub fn order_determines()
     ensures { OrderDetermines }
-{}
-
-/// One script, and the orders in which its collections took their names, have one journal: two
-/// complete runs of one program by its schedule have the same events, the same lines and the same
-/// text, however many rounds they took. Where there are no collections the script alone decides.
-pub fn one_script_one_journal()
-    ensures { OneScriptOneJournal }
 {}

@@ -40,4 +40,3 @@ pub mod Phases
 pub mod MachineTurns
 pub mod Runs
 pub mod WordText
-pub mod Schedules

@@ -1,4 +1,5 @@
-//! Journals as text: printing the events of a history, and reading them back.
+//! Journals as text: printing the events of a history, with and without word steps, and reading
+//! them back.
 #![tactic(auto)]
 
 mod faults;
@@ -11,4 +12,4 @@ mod tests;
 pub use faults::JournalFault;
 pub use laws::texts_are_distinct;
 pub use parsing::parse;
-pub use printing::print;
+pub use printing::{print, print_words};

@@ -9,6 +9,7 @@ mod answers;
 mod pages;
 mod passes;
 mod room;
+mod steps;
 
 use answers::push_answer_line;
 use heap_terms::{Event, Memory, PageType};
@@ -16,6 +17,7 @@ use pages::push_type;
 use passes::push_passes;
 use room::{DONE_LINE, EVENT_LINE, OPENED_LINE};
 use std::alloc::{AllocError, Global};
+pub use steps::print_words;
 use text_fields::{Text, push, push_command, push_number, push_number_field};
 
 /// How many bytes a line has in the mean. It is a guess: where it is too low, the buffer grows.
@@ -28,11 +30,19 @@ pub fn print(alloc: Global, events: &[Event]) -> Result<Vec<u8>, Memory>
 {
     let mut out = Text::with_capacity(alloc, events.len().saturating_mul(MEAN_LINE))?;
     push_events(&mut out, events)?;
-    out.reserve(DONE_LINE)?;
-    push(&mut out, b"done");
-    push_number_field(&mut out, events.len() as u64);
-    push(&mut out, b"\n");
+    push_done(&mut out, events.len() as u64)?;
     Ok(out.into_bytes())
+}
+
+/// Appends the last line: how many events there are.
+fn push_done(out: &mut Text, events: u64) -> Result<(), AllocError>
+    ensures { OnOk result (out.new.text ≡ out.old.text ++ line (codes "done" ++ number_field events)) }
+{
+    out.reserve(DONE_LINE)?;
+    push(out, b"done");
+    push_number_field(out, events);
+    push(out, b"\n");
+    Ok(())
 }
 
 /// Appends the lines of events.

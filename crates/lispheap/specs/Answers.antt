@@ -1,6 +1,6 @@
 -- What one call of the program does: its status, what it took, what it wrote, and what it said. The statuses and
 -- their causes are this project's own.
-use Rattle.std.specs.Prelude.{◌≡◌, ◌≢◌, ℕ, ◌≤◌, ◌⊎◌, List, [], ◌∷◌, ◌++◌, length, Option, Some, None, Result, Ok, Err, if◌then◌else◌, nat_lt, codes}
+use Rattle.std.specs.Prelude.{◌≡◌, ◌≢◌, ℕ, ◌≤◌, ◌⊎◌, List, [], ◌∷◌, ◌++◌, length, Option, Some, None, Result, Ok, Err, if◌then◌else◌, nat_lt, codes, Bool}
 use Rattle.heap_io.specs.Streams.{Stream, Rose, GaveAll, GaveMore, GaveAtMost, Grew}
 use Rattle.heap_terms.specs.declared.limits.TheConstants.{MOST_BYTES}
 use Rattle.heap_terms.specs.declared.programs.Program.{Program}
@@ -27,9 +27,13 @@ pub record IsUntouched (c : Change) : Type 0 where
 abbrev pub Failed : Change → Type 0
 Failed c = Rose c.old.faults c.new.faults
 
--- the words are the one form that the program knows
+-- the words are one of the two forms that the program knows
 abbrev pub IsReplay : List (List ℕ) → Type 0
-IsReplay words = words ≡ codes "replay" ∷ []
+IsReplay words = (words ≡ codes "replay" ∷ []) ⊎ (words ≡ codes "replay" ∷ codes "--words" ∷ [])
+
+-- the form of two words asks for the word steps
+abbrev pub asks_for_steps : List (List ℕ) → Bool
+asks_for_steps words = nat_lt 1 (length words)
 
 -- how many bytes of input there may be
 abbrev pub input_limit : ℕ
@@ -52,11 +56,11 @@ pub record SaysAll (text : List ℕ) (c : Change) : Type 0 where
   pub appended : Grew c.old.contents c.new.contents text
 
 -- the source was read to its end, and the journal of what its bytes say was appended
-pub record Writes (source out : Change) : Type 0 where
+pub record Writes (steps : Bool) (source out : Change) : Type 0 where
   pub input : List ℕ
   pub taken : IsInput source input
   pub text : List ℕ
-  pub journal : IsJournal input text
+  pub journal : IsJournal steps input text
   pub written : SaysAll text out
 
 -- a stream stopped within a text: a proper front of it was appended, and the count of faults rose
@@ -69,11 +73,11 @@ pub record StopsWithin (text : List ℕ) (c : Change) : Type 0 where
   pub rose : Failed c
 
 -- the source was read to its end, and the output stopped within the journal of what its bytes say
-pub record Stops (source out : Change) : Type 0 where
+pub record Stops (steps : Bool) (source out : Change) : Type 0 where
   pub input : List ℕ
   pub taken : IsInput source input
   pub text : List ℕ
-  pub journal : IsJournal input text
+  pub journal : IsJournal steps input text
   pub written : StopsWithin text out
 
 -- the source was read to its end, and its bytes are no script, for this reason
@@ -113,26 +117,26 @@ IsUnwritten (faults.Limit kind) text out = ⊥
 IsUnwritten faults.Memory text out = ⊥
 
 -- how a replay ended, by what went wrong, if anything
-abbrev pub Replays : Option Fault → Change → Change → Type 0
-Replays None source out = Writes source out
-Replays (Some faults.Usage) source out = ⊥
-Replays (Some (faults.Line n why)) source out = IsRefused source (LineFault n why) × IsUntouched out
-Replays (Some faults.Read) source out = Failed source × TookNotTooMany source × IsUntouched out
-Replays (Some faults.Write) source out = Stops source out
-Replays (Some faults.TooLong) source out = TookTooMany source × IsUntouched out
-Replays (Some (faults.Limit kind)) source out = ((n : ℕ) × IsRefused source (LimitFault n kind)) × IsUntouched out
-Replays (Some faults.Memory) source out = TookNotTooMany source × IsUntouched out
+abbrev pub Replays : Bool → Option Fault → Change → Change → Type 0
+Replays steps None source out = Writes steps source out
+Replays steps (Some faults.Usage) source out = ⊥
+Replays steps (Some (faults.Line n why)) source out = IsRefused source (LineFault n why) × IsUntouched out
+Replays steps (Some faults.Read) source out = Failed source × TookNotTooMany source × IsUntouched out
+Replays steps (Some faults.Write) source out = Stops steps source out
+Replays steps (Some faults.TooLong) source out = TookTooMany source × IsUntouched out
+Replays steps (Some (faults.Limit kind)) source out = ((n : ℕ) × IsRefused source (LimitFault n kind)) × IsUntouched out
+Replays steps (Some faults.Memory) source out = TookNotTooMany source × IsUntouched out
 
 -- how the call ended: the words are no form, and nothing was touched, or they are, and a replay ended so
 abbrev pub Ends : Option Fault → List (List ℕ) → Change → Change → Type 0
-Ends None words source out = IsReplay words × Replays None source out
+Ends None words source out = IsReplay words × Replays (asks_for_steps words) None source out
 Ends (Some faults.Usage) words source out = (¬ IsReplay words) × IsUntouched source × IsUntouched out
-Ends (Some (faults.Line n why)) words source out = IsReplay words × Replays (Some (faults.Line n why)) source out
-Ends (Some faults.Read) words source out = IsReplay words × Replays (Some faults.Read) source out
-Ends (Some faults.Write) words source out = IsReplay words × Replays (Some faults.Write) source out
-Ends (Some faults.TooLong) words source out = IsReplay words × Replays (Some faults.TooLong) source out
-Ends (Some (faults.Limit kind)) words source out = IsReplay words × Replays (Some (faults.Limit kind)) source out
-Ends (Some faults.Memory) words source out = IsReplay words × Replays (Some faults.Memory) source out
+Ends (Some (faults.Line n why)) words source out = IsReplay words × Replays (asks_for_steps words) (Some (faults.Line n why)) source out
+Ends (Some faults.Read) words source out = IsReplay words × Replays (asks_for_steps words) (Some faults.Read) source out
+Ends (Some faults.Write) words source out = IsReplay words × Replays (asks_for_steps words) (Some faults.Write) source out
+Ends (Some faults.TooLong) words source out = IsReplay words × Replays (asks_for_steps words) (Some faults.TooLong) source out
+Ends (Some (faults.Limit kind)) words source out = IsReplay words × Replays (asks_for_steps words) (Some (faults.Limit kind)) source out
+Ends (Some faults.Memory) words source out = IsReplay words × Replays (asks_for_steps words) (Some faults.Memory) source out
 
 -- the text was appended, or the stream stopped within it
 abbrev pub Says : List ℕ → Change → Type 0
@@ -160,7 +164,7 @@ status_read (Err (LimitFault n kind)) = 6
 abbrev pub status_for : List ℕ → ℕ
 status_for bytes = if nat_lt input_limit (length bytes) then 6 else status_read (read_script bytes)
 
--- Where the words are the form, the source tells its bytes, and neither it nor the output failed, the status is that
+-- Where the words are a form, the source tells its bytes, and neither it nor the output failed, the status is that
 -- of the bytes, or memory ran out.
 abbrev pub IsExact : List (List ℕ) → Change → Change → ℕ → Type 0
 IsExact words source out status =

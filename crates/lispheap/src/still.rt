@@ -1,18 +1,18 @@
 //! The call that waits for nobody: it reads a script, replays it, and writes its journal.
 
-ghost use Rattle.std.specs.Prelude.{◌≡◌, ◌↔◌, ◌<◌, ◌≤◌, ◌-◌, ◌^◌, None, Some, IsTrue, OnOk, IfOk, IfErr, codes, length, map};
+ghost use Rattle.std.specs.Prelude.{◌≡◌, ◌↔◌, ◌<◌, ◌≤◌, ◌-◌, ◌^◌, None, Some, IsTrue, OnOk, IfOk, IfErr, codes, length, map, true, false};
 ghost use Rattle.std.specs.String.{string_bytes};
 ghost use Rattle.heap_terms.specs.ScriptReading.{read_script};
 ghost use Rattle.heap_terms.specs.Valid.{IsValid};
-ghost use Rattle.lispheap.specs.Answers.{change, Answers, Ends, IsExact, IsReplay, IsInput, IsUnread, IsUnwritten, SaysAll, Refuses, Replays, Reports};
+ghost use Rattle.lispheap.specs.Answers.{change, Answers, Ends, IsExact, asks_for_steps, IsReplay, IsInput, IsUnread, IsUnwritten, SaysAll, Refuses, Replays, Reports};
 ghost use Rattle.lispheap.specs.Journals.{IsJournal, IsJournalOf};
 ghost use Rattle.lispheap.specs.Texts.{status_of};
 
 use crate::faults::{Fault, put_text, say};
 use heap_io::{ReadFault, Sink, Source, read_all};
 use heap_terms::{MOST_BYTES, Memory, Program};
-use journal_text::print;
-use replay_core::run_history;
+use journal_text::{print, print_words};
+use replay_core::{run_history, run_schedule};
 use script_text::{ScriptFault, parse};
 use std::alloc::Global;
 
@@ -20,8 +20,9 @@ use std::alloc::Global;
 const INPUT_LIMIT: u64 = MOST_BYTES as u64;
 
 /// Does what the words say and answers the status: 0 done, 2 usage, 3 no script, 4 read fault, 5
-/// write fault, 6 a limit, 7 out of memory. The one form of words is `replay`: the source is read
-/// to its end as a script, the script runs by its schedule, and its journal is written to `out`.
+/// write fault, 6 a limit, 7 out of memory. The forms of words are `replay` and
+/// `replay --words`: the source is read to its end as a script, the script runs by its schedule, and
+/// its journal is written to `out`, in the second form with the steps of the word machine.
 /// What went wrong is said on `err` in one line, and a fault of `err` changes no status. The order
 /// is: usage, read, too long, grammar, run, write; want of memory may come at each of them before
 /// the write.
@@ -98,15 +99,16 @@ fn perform<S: Source, K: Sink>(
     if !is_replay(words) {
         return Err(Fault::Usage);
     }
-    replay(alloc, source, out)
+    replay(alloc, words.len() > 1, source, out)
 }
 
-/// Whether the words are the one form that the program knows.
+/// Whether the words are one of the two forms that the program knows.
 fn is_replay(words: &[String]) -> bool
     ensures { IsTrue result ↔ IsReplay (map string_bytes words.now) }
 {
     match words {
         [word] => is_word(word),
+        [word, option] => is_word(word) && is_option(option),
         _ => false,
     }
 }
@@ -118,17 +120,29 @@ fn is_word(word: &String) -> bool
     word.as_str() == "replay"
 }
 
-/// Reads a script, replays it, and writes its journal.
-fn replay<S: Source, K: Sink>(alloc: Global, source: &mut S, out: &mut K) -> Result<(), Fault>
-    ensures done { OnOk result (Replays None
+/// Whether a word is `--words`.
+fn is_option(word: &String) -> bool
+    ensures { IsTrue result ↔ (string_bytes word.now ≡ codes "--words") }
+{
+    word.as_str() == "--words"
+}
+
+/// Reads a script, replays it, and writes its journal, with the word steps where they are asked for.
+fn replay<S: Source, K: Sink>(
+    alloc: Global,
+    steps: bool,
+    source: &mut S,
+    out: &mut K,
+) -> Result<(), Fault>
+    ensures done { OnOk result (Replays steps None
         (change (S.state source.old) (S.state source.new))
         (change (K.state out.old) (K.state out.new))) }
-    ensures failed { IfErr result (λ fault. Replays (Some fault)
+    ensures failed { IfErr result (λ fault. Replays steps (Some fault)
         (change (S.state source.old) (S.state source.new))
         (change (K.state out.old) (K.state out.new))) }
 {
     let bytes = read(alloc, source)?;
-    let journal = journal_for(alloc, &bytes)?;
+    let journal = journal_for(alloc, steps, &bytes)?;
     write(out, &journal)
 }
 
@@ -161,24 +175,45 @@ fn read<S: Source>(alloc: Global, source: &mut S) -> Result<Vec<u8>, Fault>
 }
 
 /// The journal of what a script says.
-fn journal_for(alloc: Global, bytes: &[u8]) -> Result<Vec<u8>, Fault>
+fn journal_for(alloc: Global, steps: bool, bytes: &[u8]) -> Result<Vec<u8>, Fault>
     requires { length bytes.now ≤ INPUT_LIMIT }
-    ensures journal { IfOk result (λ text. IsJournal bytes.now text.items) }
+    ensures journal { IfOk result (λ text. IsJournal steps bytes.now text.items) }
     ensures refused { IfErr result (λ fault. Refuses fault (read_script bytes.now)) }
 {
     match parse(alloc, bytes) {
-        Ok(program) => Ok(run(alloc, program)?),
+        Ok(program) => Ok(run(alloc, steps, program)?),
         Err(ScriptFault::Line(n, why)) => Err(Fault::Line(n, why)),
         Err(ScriptFault::Limit(_, kind)) => Err(Fault::Limit(kind)),
         Err(ScriptFault::Memory) => Err(Fault::Memory),
     }
 }
 
-/// The journal of a program.
-fn run(alloc: Global, program: Program) -> Result<Vec<u8>, Memory>
+/// The journal of a program, with the word steps where they are asked for.
+fn run(alloc: Global, steps: bool, program: Program) -> Result<Vec<u8>, Memory>
     requires { IsValid program }
-    ensures { IfOk result (λ text. IsJournalOf program text.items) }
+    ensures { IfOk result (λ text. IsJournalOf steps program text.items) }
+{
+    if steps {
+        run_with_steps(alloc, program)
+    } else {
+        run_alone(alloc, program)
+    }
+}
+
+/// The journal of a program without its word steps, which are not kept.
+fn run_alone(alloc: Global, program: Program) -> Result<Vec<u8>, Memory>
+    requires { IsValid program }
+    ensures { IfOk result (λ text. IsJournalOf false program text.items) }
 {
     let world = run_history(alloc, program)?;
     print(alloc, world.history())
+}
+
+/// The journal of a program with its word steps.
+fn run_with_steps(alloc: Global, program: Program) -> Result<Vec<u8>, Memory>
+    requires { IsValid program }
+    ensures { IfOk result (λ text. IsJournalOf true program text.items) }
+{
+    let replay = run_schedule(alloc, program)?;
+    print_words(alloc, replay.lines.as_slice(), replay.world.history())
 }

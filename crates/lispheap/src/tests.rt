@@ -20,7 +20,15 @@ const THREE_THREADS: &str =
     "lispheap 1\nheap 4\nthread\nfix s0 7\ncons g0 s0 s0\nget b0 g0 0\nthread\ncons b1 g0 g0\nshow b1\nthread\nshow g0\nput g0 1 g0\nschedule 0*5 2*2 1\nend\n";
 
 const THREE_THREADS_JOURNAL: &str =
-    "0 fix s0 7 -> ok\n0 open cons 0 1\n0 cons g0 s0 s0 -> #0 @0\n0 get b0 g0 0 -> 7\n0 end\n2 show g0 -> #0\n2 put g0 1 g0 -> ok\n1 open cons 1 1\n1 cons b1 g0 g0 -> #1 @512\n2 end\n1 show b1 -> #1\n1 end\ndone 12\n";
+    "0 fix s0 7 -> ok\n0 open cons 0 1\n2 show g0 -> 0\n0 cons g0 s0 s0 -> #0 @0\n1 open cons 1 1\n1 cons b1 g0 g0 -> #1 @512\n2 put g0 1 g0 -> ok\n0 get b0 g0 0 -> 7\n1 show b1 -> #1\n2 end\n0 end\n1 end\ndone 12\n";
+
+/// Two threads, of which the second has the first turns.
+const TWO_THREADS: &str =
+    "lispheap 1\nheap 2\nthread\nfix s0 1\nthread\nfix s0 2\nschedule 1*2 0\nend\n";
+
+/// Each line is one turn: a word step, or an event.
+const TWO_THREADS_STEPS: &str =
+    "1 : resume\n1 : enter\n0 : resume\n0 : enter\n1 fix s0 2 -> ok\n0 fix s0 1 -> ok\n1 : leave\n0 : leave\n1 : enter\n0 : enter\n1 end\n0 end\n1 : leave\n0 : leave\n1 : park\n0 : park\ndone 4\n";
 
 /// What one call does: its status, what was written, and what was said.
 #[derive(Drop)]
@@ -93,8 +101,8 @@ fn scripts_give_their_journals(rt: HostRuntime) -> Result<(), Fail> {
             "0 get s1 s0 0 -> !type\n0 open cons 0 1\n0 cons b0 s0 s0 -> #0 @0\n0 get s1 b0 2 -> !range\n0 end\ndone 5\n",
         ),
         (
-            "lispheap 1\nheap 2\nthread\nfix s0 1\nthread\nfix s0 2\nschedule 1*2 0\nend\n",
-            "1 fix s0 2 -> ok\n1 end\n0 fix s0 1 -> ok\n0 end\ndone 4\n",
+            TWO_THREADS,
+            "1 fix s0 2 -> ok\n0 fix s0 1 -> ok\n1 end\n0 end\ndone 4\n",
         ),
     ] {
         assert_replay(&rt, rt.alloc(), input.as_bytes(), 0, journal, "")?;
@@ -149,6 +157,16 @@ fn cells_are_moved_compared_and_addressed(rt: HostRuntime) -> Result<(), Fail> {
     ] {
         assert_replay(&rt, alloc, input.as_bytes(), 3, "", said)?;
     }
+    Ok(())
+}
+
+#[test]
+fn word_steps_stand_between_the_events(rt: HostRuntime) -> Result<(), Fail> {
+    let words = ["replay", "--words"];
+    let got = outcome_of(rt.alloc(), &words, TWO_THREADS.as_bytes(), WHOLE)?;
+    assert_eq!(rt; got.status, 0);
+    assert_eq!(rt; got.out.bytes(), TWO_THREADS_STEPS.as_bytes());
+    assert_eq!(rt; got.err.bytes(), b"".as_slice());
     Ok(())
 }
 
@@ -329,8 +347,10 @@ fn too_many_bytes_are_no_script(rt: HostRuntime) -> Result<(), Fail> {
 
 #[test]
 fn other_words_are_no_form(rt: HostRuntime) -> Result<(), Fail> {
-    let lists: [&[&str]; 5] = [
+    let lists: [&[&str]; 7] = [
         &[],
+        &["--words"],
+        &["replay", "--words", "--words"],
         &["run"],
         &["run", "--fast"],
         &["replay", "replay"],

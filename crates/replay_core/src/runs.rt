@@ -1,6 +1,7 @@
 //! A whole run of a program.
 
 ghost use Rattle.std.specs.Prelude.{◌≡◌, IfOk, OnOk};
+ghost use Rattle.heap_terms.specs.Complete.{IsComplete};
 ghost use Rattle.heap_terms.specs.Runs.{IsRun};
 ghost use Rattle.heap_terms.specs.Valid.{IsValid};
 ghost use Rattle.replay_core.specs.Runs.{RunsTo, RunsWhole};
@@ -27,6 +28,7 @@ pub fn run_schedule(alloc: Global, program: Program) -> Result<Replay, Memory>
     requires { IsValid program }
     ensures program { IfOk result (λ replay. replay.world.program ≡ program) }
     ensures run { IfOk result (λ replay. IsRun program replay.lines replay.world.history) }
+    ensures complete { IfOk result (λ replay. IsComplete program replay.world.history) }
 {
     let mut machine = Machine::new(alloc, program)?;
     let mut kept = Some(Lines::new(alloc));
@@ -45,6 +47,7 @@ pub fn run_history(alloc: Global, program: Program) -> Result<World, Memory>
     requires { IsValid program }
     ensures program { IfOk result (λ world. world.program ≡ program) }
     ensures run { IfOk result (λ world. RunsTo program world.history) }
+    ensures complete { IfOk result (λ world. IsComplete program world.history) }
 {
     let mut machine = Machine::new(alloc, program)?;
     let mut kept = None;

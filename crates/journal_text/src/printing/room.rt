@@ -47,3 +47,12 @@ pub(super) const BREAK_LINE: usize = 5 + NAME_FIELD + 1;
 
 /// The last line: `done` and a number.
 pub(super) const DONE_LINE: usize = 4 + NUMBER_FIELD + 1;
+
+/// A word step: the longest is ` release`, and its thread.
+pub(super) const STEP: usize = 7 + NUMBER_FIELD;
+
+/// What a step found: the longest is ` taken`, and the holder.
+pub(super) const FOUND: usize = 6 + NUMBER_FIELD;
+
+/// The line of a word step: a number, ` : `, the step and what it found.
+pub(super) const STEP_LINE: usize = NUMBER + 3 + STEP + FOUND + 1;

@@ -1,0 +1,215 @@
+//! Whole histories of small programs.
+
+ghost use Rattle.std.specs.Prelude.{◌≡◌, length, IfOk};
+ghost use Rattle.heap_terms.specs.Valid.{IsValid};
+
+use crate::machine::{Machine, Stepped};
+use crate::runs::run_schedule;
+use heap_terms::{
+    Answer, Cell, Command, Event, Memory, PageType, Program, Refusal, ReplayLine, Seq, StepAnswer,
+    WordLine, WordStep,
+};
+use std::alloc::Global;
+
+/// Two threads without commands.
+fn two_idle_threads(alloc: Global) -> Result<Program, Memory>
+    ensures { IfOk result IsValid }
+{
+    let first = vec![in alloc]?;
+    let second = vec![in alloc]?;
+    let threads = vec![in alloc; Seq::from_vec(first), Seq::from_vec(second)]?;
+    Ok(Program {
+        pages: 1,
+        auto: 0,
+        threads: Seq::from_vec(threads),
+        schedule: Seq::new(alloc),
+    })
+}
+
+/// The word step of a thread that went.
+fn stepped(thread: u32, step: WordStep) -> WordLine {
+    WordLine {
+        thread,
+        step,
+        answer: StepAnswer::Went,
+    }
+}
+
+/// Its line.
+fn went(thread: u32, step: WordStep) -> ReplayLine {
+    ReplayLine::Word(stepped(thread, step))
+}
+
+#[test]
+fn threads_without_commands_end_in_turn(rt: HostRuntime) -> Result<(), Memory> {
+    let alloc = rt.alloc();
+    let replay = run_schedule(alloc, two_idle_threads(alloc)?)?;
+    let expected = vec![in alloc; Event::Ended { thread: 0 }, Event::Ended { thread: 1 }]?;
+    assert!(rt; replay.world.history() == expected.as_slice());
+    let lines = vec![in alloc;
+        went(0, WordStep::Resume),
+        went(1, WordStep::Resume),
+        went(0, WordStep::Enter),
+        went(1, WordStep::Enter),
+        ReplayLine::Event(0),
+        ReplayLine::Event(1),
+        went(0, WordStep::Leave),
+        went(1, WordStep::Leave),
+        went(0, WordStep::Park),
+        went(1, WordStep::Park),
+    ]?;
+    assert!(rt; replay.lines == Seq::from_vec(lines));
+    Ok(())
+}
+
+/// Two threads that make a fixnum each, and a schedule in which the second has its turns first.
+fn two_fixnums(alloc: Global) -> Result<Program, Memory>
+    ensures valid { IfOk result IsValid }
+    ensures threads { IfOk result (λ program. length program.threads ≡ 2) }
+{
+    let first = vec![in alloc;
+        Command::Fix {
+            d: Cell::Stack(0),
+            n: 1
+        },
+    ]?;
+    let second = vec![in alloc;
+        Command::Fix {
+            d: Cell::Stack(0),
+            n: 2
+        },
+    ]?;
+    let threads = vec![in alloc; Seq::from_vec(first), Seq::from_vec(second)]?;
+    let turns = vec![in alloc; 1, 1, 0]?;
+    Ok(Program {
+        pages: 2,
+        auto: 0,
+        threads: Seq::from_vec(threads),
+        schedule: Seq::from_vec(turns),
+    })
+}
+
+/// What thread t does when it makes the fixnum n.
+fn made(thread: u32, n: i64) -> Event {
+    Event::Did {
+        thread,
+        command: Command::Fix {
+            d: Cell::Stack(0),
+            n,
+        },
+        answer: Answer::Done,
+    }
+}
+
+#[test]
+fn the_schedule_decides_which_thread_goes_first(rt: HostRuntime) -> Result<(), Memory> {
+    let alloc = rt.alloc();
+    let replay = run_schedule(alloc, two_fixnums(alloc)?)?;
+    let ends = (Event::Ended { thread: 1 }, Event::Ended { thread: 0 });
+    let expected = vec![in alloc; made(1, 2), made(0, 1), ends.0, ends.1]?;
+    assert!(rt; replay.world.history() == expected.as_slice());
+    Ok(())
+}
+
+#[test]
+fn a_turn_is_one_row_of_the_table(rt: HostRuntime) -> Result<(), Memory> {
+    let alloc = rt.alloc();
+    let mut machine = Machine::new(alloc, two_fixnums(alloc)?)?;
+    for row in [
+        Stepped::Word(stepped(1, WordStep::Resume)),
+        Stepped::Word(stepped(1, WordStep::Enter)),
+        Stepped::Happened,
+        Stepped::Word(stepped(1, WordStep::Leave)),
+        Stepped::Word(stepped(1, WordStep::Enter)),
+        Stepped::Happened,
+        Stepped::Word(stepped(1, WordStep::Leave)),
+        Stepped::Word(stepped(1, WordStep::Park)),
+        Stepped::Ended,
+        Stepped::Ended,
+    ] {
+        let done = machine.step(1)?;
+        assert!(rt; done == row);
+    }
+    let world = machine.into_world();
+    let expected = vec![in alloc; made(1, 2), Event::Ended { thread: 1 }]?;
+    assert!(rt; world.history() == expected.as_slice());
+    Ok(())
+}
+
+/// A thread whose reads of a field are refused: of a fixnum, and of a cons past its end.
+fn refused_reads(alloc: Global) -> Result<Program, Memory>
+    ensures { IfOk result IsValid }
+{
+    let (cons, fixnum) = (Cell::Exact(0), Cell::Stack(0));
+    let read = Cell::Stack(1);
+    let commands = vec![in alloc;
+        Command::Get {
+            d: read,
+            c: fixnum,
+            i: 0
+        },
+        Command::NewCons {
+            d: cons,
+            a: fixnum,
+            b: fixnum
+        },
+        Command::Get {
+            d: read,
+            c: cons,
+            i: 2
+        },
+    ]?;
+    let threads = vec![in alloc; Seq::from_vec(commands)]?;
+    Ok(Program {
+        pages: 1,
+        auto: 0,
+        threads: Seq::from_vec(threads),
+        schedule: Seq::new(alloc),
+    })
+}
+
+#[test]
+fn a_refused_read_goes_on(rt: HostRuntime) -> Result<(), Memory> {
+    let alloc = rt.alloc();
+    let replay = run_schedule(alloc, refused_reads(alloc)?)?;
+    let (cons, fixnum) = (Cell::Exact(0), Cell::Stack(0));
+    let read = Cell::Stack(1);
+    let expected = vec![in alloc;
+        Event::Did {
+            thread: 0,
+            command: Command::Get {
+                d: read,
+                c: fixnum,
+                i: 0
+            },
+            answer: Answer::Refused(Refusal::NotType),
+        },
+        Event::Opened {
+            thread: 0,
+            ty: PageType::Cons,
+            first: 0,
+            pages: 1
+        },
+        Event::Did {
+            thread: 0,
+            command: Command::NewCons {
+                d: cons,
+                a: fixnum,
+                b: fixnum
+            },
+            answer: Answer::Placed { name: 0, index: 0 },
+        },
+        Event::Did {
+            thread: 0,
+            command: Command::Get {
+                d: read,
+                c: cons,
+                i: 2
+            },
+            answer: Answer::Refused(Refusal::OutOfRange),
+        },
+        Event::Ended { thread: 0 },
+    ]?;
+    assert!(rt; replay.world.history() == expected.as_slice());
+    Ok(())
+}
