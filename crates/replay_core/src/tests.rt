@@ -115,24 +115,34 @@ fn the_schedule_decides_which_thread_goes_first(rt: HostRuntime) -> Result<(), M
 fn a_turn_is_one_row_of_the_table(rt: HostRuntime) -> Result<(), Memory> {
     let alloc = rt.alloc();
     let mut machine = Machine::new(alloc, two_fixnums(alloc)?)?;
-    for row in [
-        Stepped::Word(stepped(1, WordStep::Resume)),
-        Stepped::Word(stepped(1, WordStep::Enter)),
-        Stepped::Happened,
-        Stepped::Word(stepped(1, WordStep::Leave)),
-        Stepped::Word(stepped(1, WordStep::Enter)),
-        Stepped::Happened,
-        Stepped::Word(stepped(1, WordStep::Leave)),
-        Stepped::Word(stepped(1, WordStep::Park)),
-        Stepped::Ended,
-        Stepped::Ended,
-    ] {
-        let done = machine.step(1)?;
-        assert!(rt; done == row);
-    }
+    let turns = [
+        machine.step(1),
+        machine.step(1),
+        machine.step(1),
+        machine.step(1),
+        machine.step(1),
+        machine.step(1),
+        machine.step(1),
+        machine.step(1),
+        machine.step(1),
+    ];
     let world = machine.into_world();
     let expected = vec![in alloc; made(1, 2), Event::Ended { thread: 1 }]?;
     assert!(rt; world.history() == expected.as_slice());
+    assert!(rt;
+        turns
+            == [
+                Ok(Stepped::Word(stepped(1, WordStep::Resume))),
+                Ok(Stepped::Word(stepped(1, WordStep::Enter))),
+                Ok(Stepped::Happened),
+                Ok(Stepped::Word(stepped(1, WordStep::Leave))),
+                Ok(Stepped::Word(stepped(1, WordStep::Enter))),
+                Ok(Stepped::Happened),
+                Ok(Stepped::Word(stepped(1, WordStep::Leave))),
+                Ok(Stepped::Word(stepped(1, WordStep::Park))),
+                Ok(Stepped::Ended),
+            ]
+    );
     Ok(())
 }
 
