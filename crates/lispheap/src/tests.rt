@@ -160,13 +160,22 @@ fn cells_are_moved_compared_and_addressed(rt: HostRuntime) -> Result<(), Fail> {
     Ok(())
 }
 
+/// A thread that inhibits collections stays inside its section.
+const INHIBITS: &str =
+    "lispheap 1\nheap 1\nthread\nnogc\nfix s0 1\ngcok\ngcok\nend\n";
+
+const INHIBITS_STEPS: &str =
+    "0 : resume\n0 : enter\n0 nogc -> ok\n0 fix s0 1 -> ok\n0 gcok -> ok\n0 : leave\n0 : enter\n0 gcok -> !empty\n0 : leave\n0 : enter\n0 end\n0 : leave\n0 : park\ndone 5\n";
+
 #[test]
 fn word_steps_stand_between_the_events(rt: HostRuntime) -> Result<(), Fail> {
     let words = ["replay", "--words"];
-    let got = outcome_of(rt.alloc(), &words, TWO_THREADS.as_bytes(), WHOLE)?;
-    assert_eq!(rt; got.status, 0);
-    assert_eq!(rt; got.out.bytes(), TWO_THREADS_STEPS.as_bytes());
-    assert_eq!(rt; got.err.bytes(), b"".as_slice());
+    for (input, steps) in [(TWO_THREADS, TWO_THREADS_STEPS), (INHIBITS, INHIBITS_STEPS)] {
+        let got = outcome_of(rt.alloc(), &words, input.as_bytes(), WHOLE)?;
+        assert_eq!(rt; got.status, 0);
+        assert_eq!(rt; got.out.bytes(), steps.as_bytes());
+        assert_eq!(rt; got.err.bytes(), b"".as_slice());
+    }
     Ok(())
 }
 
