@@ -161,8 +161,7 @@ fn cells_are_moved_compared_and_addressed(rt: HostRuntime) -> Result<(), Fail> {
 }
 
 /// A thread that inhibits collections stays inside its section.
-const INHIBITS: &str =
-    "lispheap 1\nheap 1\nthread\nnogc\nfix s0 1\ngcok\ngcok\nend\n";
+const INHIBITS: &str = "lispheap 1\nheap 1\nthread\nnogc\nfix s0 1\ngcok\ngcok\nend\n";
 
 const INHIBITS_STEPS: &str =
     "0 : resume\n0 : enter\n0 nogc -> ok\n0 fix s0 1 -> ok\n0 gcok -> ok\n0 : leave\n0 : enter\n0 gcok -> !empty\n0 : leave\n0 : enter\n0 end\n0 : leave\n0 : park\ndone 5\n";
