@@ -5,7 +5,7 @@ ghost use Rattle.std.specs.Option.{ForSome};
 ghost use Rattle.heap_terms.specs.Heap.{thread_at};
 ghost use Rattle.heap_terms.specs.declared.limits.TheConstants.{MOST_ELEMENTS, MOST_WORDS};
 ghost use Rattle.heap_terms.specs.Layout.{size_of};
-ghost use Rattle.heap_terms.specs.Regions.{wish_of, has_room, page_has_room, run_has_room};
+ghost use Rattle.heap_terms.specs.Regions.{Make, wish_of, has_room, page_has_room, run_has_room};
 ghost use Rattle.heap_terms.specs.declared.pages.Next.{Next};
 ghost use Rattle.heap_terms.specs.Histories.{Lawful, command_at, next_for};
 ghost use Rattle.heap_terms.specs.Valid.{IsValid};
@@ -113,6 +113,7 @@ impl World {
 
     /// What thread t does next. Where it builds an object, every parcel of t that agrees has room
     /// for it. It takes no memory.
+    #[inline(always)]
     pub fn next(&self, t: u32) -> Next
         requires { t < length self.now.program.threads }
         ensures next { result ≡ next_of self.now t }
@@ -151,15 +152,44 @@ impl World {
         ensures { (t : ℕ) → state ≡ state_of (thread_at (heap_of self.now) t) →
             result ≡ next_for (heap_of self.now) t (wish_of command) }
     {
+        // A cons has a way of its own, since it is the most usual object.
+        match command {
+            Command::NewCons { .. } => self.next_made(state, Kind::Cons, 2, 0),
+            Command::NewVector { .. }
+            | Command::NewInstance { .. }
+            | Command::NewClosure { .. }
+            | Command::NewWords { .. }
+            | Command::NewWeak { .. }
+            | Command::NewTable { .. } => self.next_wished(state, command),
+            _ => Next::Simple,
+        }
+    }
+
+    /// The same, for an object that is no cons.
+    #[inline(never)]
+    fn next_wished(&self, state: ThreadState, command: Command) -> Next
+        requires { Wishes (heap_of self.now) state command }
+        ensures { (t : ℕ) → state ≡ state_of (thread_at (heap_of self.now) t) →
+            result ≡ next_for (heap_of self.now) t (wish_of command) }
+    {
         match wish(command) {
             None => Next::Simple,
-            Some(Making { kind, n, seed }) => {
-                if self.has_room(state, kind, n) {
-                    Next::Build { kind, n, seed }
-                } else {
-                    Next::Open
-                }
-            }
+            Some(Making { kind, n, seed }) => self.next_made(state, kind, n, seed),
+        }
+    }
+
+    /// What a thread in a state does that wants an object made.
+    #[inline(always)]
+    fn next_made(&self, state: ThreadState, kind: Kind, n: u32, seed: u64) -> Next
+        requires regions { HasOpen (heap_of self.now) state }
+        requires n { n ≤ MOST_ELEMENTS }
+        ensures { (t : ℕ) → state ≡ state_of (thread_at (heap_of self.now) t) →
+            result ≡ next_for (heap_of self.now) t (Make kind n seed) }
+    {
+        if self.has_room(state, kind, n) {
+            Next::Build { kind, n, seed }
+        } else {
+            Next::Open
         }
     }
 
@@ -197,6 +227,7 @@ impl World {
     }
 
     /// Whether an open run was opened for a large object of a type and a size.
+    #[inline(never)]
     fn run_has_room(&self, run: Option<u32>, ty: PageType, size: u32) -> bool
         requires run { ForSome run (λ page. page < length (heap_of self.now).pages) }
         requires size { size ≤ MOST_WORDS }
