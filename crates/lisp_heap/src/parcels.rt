@@ -99,6 +99,7 @@ fn put_back(slot: Option<Lease>) -> u32
 }
 
 /// Builds an object in the region of a slot.
+#[inline(always)]
 fn build_in(slot: &mut Option<Lease>, making: Making)
     requires there { IsSome slot.old }
     requires fits { ForSome slot.old (λ l. Fits making.kind making.n (lease_view l)) }
@@ -207,15 +208,37 @@ impl Parcel {
 
     /// Builds an object of a kind with n words of payload in the region of its class; a cons has
     /// 2. What was built there and not committed is given up. It takes no memory.
+    #[inline(always)]
     pub fn build(&mut self, kind: Kind, n: u32, seed: u64)
         requires room { HasRoom self.old kind n }
         requires making { IsMaking kind n seed }
         ensures parcel { self.new ≡ with_built self.old kind n seed }
         ensures built { HasBuilt self.new kind n seed }
     {
-        let making = Making { kind, n, seed };
-        if is_small_object(kind, n) {
-            match page_type(kind) {
+        // A cons has a way of its own, since it is the most usual object.
+        match kind {
+            Kind::Cons => {
+                let making = Making {
+                    kind: Kind::Cons,
+                    n,
+                    seed,
+                };
+                build_in(&mut self.cons, making)
+            }
+            _ => self.build_other(Making { kind, n, seed }),
+        }
+    }
+
+    /// The same, for any object.
+    #[inline(never)]
+    fn build_other(&mut self, making: Making)
+        requires room { HasRoom self.old making.kind making.n }
+        requires making { IsMaking making.kind making.n making.seed }
+        ensures parcel { self.new ≡ with_built self.old making.kind making.n making.seed }
+        ensures built { HasBuilt self.new making.kind making.n making.seed }
+    {
+        if is_small_object(making.kind, making.n) {
+            match page_type(making.kind) {
                 PageType::Cons => build_in(&mut self.cons, making),
                 PageType::Boxed => build_in(&mut self.boxed, making),
                 PageType::Unboxed => build_in(&mut self.unboxed, making),
