@@ -1,7 +1,8 @@
 //! Whole histories of small programs.
 
-ghost use Rattle.std.specs.Prelude.{◌≡◌, length, IfOk};
+ghost use Rattle.std.specs.Prelude.{◌≡◌, ◌<◌, length, IfOk};
 ghost use Rattle.heap_terms.specs.Valid.{IsValid};
+ghost use Rattle.replay_core.specs.MachineView.{program_of};
 
 use crate::machine::{Machine, Stepped};
 use crate::runs::run_schedule;
@@ -111,20 +112,28 @@ fn the_schedule_decides_which_thread_goes_first(rt: HostRuntime) -> Result<(), M
     Ok(())
 }
 
+/// One turn of thread 1.
+fn second_steps(machine: &mut Machine) -> Result<Stepped, Memory>
+    requires { 1 < length (program_of machine.old).threads }
+    ensures { 1 < length (program_of machine.new).threads }
+{
+    machine.step(1)
+}
+
 #[test]
 fn a_turn_is_one_row_of_the_table(rt: HostRuntime) -> Result<(), Memory> {
     let alloc = rt.alloc();
     let mut machine = Machine::new(alloc, two_fixnums(alloc)?)?;
     let turns = [
-        machine.step(1),
-        machine.step(1),
-        machine.step(1),
-        machine.step(1),
-        machine.step(1),
-        machine.step(1),
-        machine.step(1),
-        machine.step(1),
-        machine.step(1),
+        second_steps(&mut machine),
+        second_steps(&mut machine),
+        second_steps(&mut machine),
+        second_steps(&mut machine),
+        second_steps(&mut machine),
+        second_steps(&mut machine),
+        second_steps(&mut machine),
+        second_steps(&mut machine),
+        second_steps(&mut machine),
     ];
     let world = machine.into_world();
     let expected = vec![in alloc; made(1, 2), Event::Ended { thread: 1 }]?;
