@@ -1,0 +1,7 @@
+//! Tracing: the fields of what is pinned, has moved or is older are evacuated, until nothing is left
+//! unscanned.
+#![tactic(auto)]
+
+mod queue;
+
+pub use queue::Scanned;

@@ -1,0 +1,4 @@
+pub mod Rooted
+pub mod Noted
+pub mod Traced
+pub mod Ends
