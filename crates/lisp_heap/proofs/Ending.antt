@@ -1,5 +1,5 @@
 -- What a World keeps after the end of a thread.
-use Rattle.std.proofs.Common.{◌≡◌, ◌≢◌, ℕ, ◌+◌, ◌-◌, ◌*◌, ◌<◌, ◌≤◌, List, ◌++◌, length, take, drop, replicate, refl, sym, ◌∙◌, subst, ap, arith, get_or, length-set, inl, inr, Option, option_map, true, ◌⊎◌}
+use Rattle.std.proofs.Common.{◌≡◌, ◌≢◌, ℕ, ◌+◌, ◌-◌, ◌*◌, ◌<◌, ◌≤◌, List, [], ◌++◌, length, take, drop, replicate, refl, sym, ◌∙◌, subst, ap, arith, get_or, length-set, inl, inr, Option, option_map, true, ◌⊎◌}
 use Rattle.std.proofs.lemmas.Bool.{cases_eq, cases_lt}
 use Rattle.std.proofs.Math.Nat.{mul-le-mul_left, mul-add}
 use Rattle.std.proofs.lemmas.List.{length-append, length-drop, length-take-le, length-replicate, get_or-replicate, get_or-take, get_or-drop, get_or-append-add, get_or_append_left}
@@ -16,12 +16,13 @@ use Rattle.lisp_heap.specs.Agreement.{Agrees, small_out, run_out, run_type_of}
 use Rattle.lisp_heap.specs.CellsView.{CellsView, spot, raw_spot, cleared, with_cleared}
 use Rattle.lisp_heap.specs.ParcelView.{ParcelView, empty_parcel}
 use Rattle.lisp_heap.specs.Parts.{Parts}
+use Rattle.lisp_heap.specs.PinsView.{with_pins_cleared}
 use Rattle.lisp_heap.specs.Standing.{CellsStand, Holds}
 use Rattle.lisp_heap.specs.State.{state_of, fresh_state, with_ended}
 use Rattle.lisp_heap.specs.declared.states.ThreadState.{ThreadState}
 use Rattle.lisp_heap.proofs.Agreeing.{Agrees-same}
 use Rattle.lisp_heap.proofs.Threads.{thread_at-same, thread_at-other}
-use Rattle.lisp_heap.proofs.Unchanged.{WordsStand-same, LabelsStand-same, state_read, states_set}
+use Rattle.lisp_heap.proofs.Unchanged.{WordsStand-same, LabelsStand-same, state_read, states_set, pins_set}
 
 -- ---- a list with a part replaced
 
@@ -159,7 +160,7 @@ CellsStand-ended a t v ht s =
 -- ---- all that a World keeps
 
 Holds-ended : (a : NamedHeap) (v : Parts) (t : ℕ) → t < length a.threads → Holds a v →
-    Holds (with_thread a t (ended_thread (thread_at a t))) (record v { cells = with_cleared v.cells t; states = with_ended v.states t })
+    Holds (with_thread a t (ended_thread (thread_at a t))) (record v { cells = with_cleared v.cells t; states = with_ended v.states t; pins = with_pins_cleared v.pins t })
 Holds-ended a v t ht holds =
     let th : Thread = ended_thread (thread_at a t) in
     let state : ThreadState = record fresh_state { done = (get_or v.states t fresh_state).done; ended = true } in
@@ -170,11 +171,12 @@ Holds-ended a v t ht holds =
       labels = LabelsStand-same a (with_thread a t th) v.labels refl refl holds.labels;
       cells = CellsStand-ended a t v.cells ht holds.cells;
       states = states_set a v.states t th state holds.states same;
+      pins = pins_set a v.pins t th [] holds.pins refl;
       commits = holds.commits;
     }
 
 pub after_end_holds : (p : Program) (a : NamedHeap) (v : Parts) (t : ℕ) → t < length a.threads → Holds a v →
-    Holds (after p a (Ended t)) (record v { cells = with_cleared v.cells t; states = with_ended v.states t })
+    Holds (after p a (Ended t)) (record v { cells = with_cleared v.cells t; states = with_ended v.states t; pins = with_pins_cleared v.pins t })
 unfolding after
 after_end_holds p a v t ht holds = Holds-ended a v t ht holds
 

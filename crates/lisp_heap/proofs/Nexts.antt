@@ -29,18 +29,19 @@ pub next_done : (p : Program) (a : NamedHeap) (t : ℕ) → (thread_at a t).ende
 unfolding next
 next_done p a t e = ap (λ (b : Bool). if b then nexts.Done else next_unless_due (due (thread_at a t)) (next_command a t (command_at p a t))) (sym e)
 
-due_none : (th : Thread) → th.owed ≡ None → due th ≡ None
-due_none th e = by_bool (th.inhibits == 0)
-  where
-    by_bool : (b : Bool) → (if b then th.owed else None) ≡ None
-    by_bool true = e
-    by_bool false = refl
-
-pub next_alive : (p : Program) (a : NamedHeap) (t : ℕ) → (thread_at a t).ended ≡ false → (thread_at a t).owed ≡ None →
+pub next_alive : (p : Program) (a : NamedHeap) (t : ℕ) → (thread_at a t).ended ≡ false → due (thread_at a t) ≡ None →
     next_command a t (command_at p a t) ≡ next p a t
 unfolding next
-next_alive p a t e owed =
-    ap (λ (o : Option ℕ). next_unless_due o (next_command a t (command_at p a t))) (sym (due_none (thread_at a t) owed))
+next_alive p a t e free =
+    ap (λ (o : Option ℕ). next_unless_due o (next_command a t (command_at p a t))) (sym free)
+    ∙ ap (λ (b : Bool). if b then nexts.Done else next_unless_due (due (thread_at a t)) (next_command a t (command_at p a t))) (sym e)
+
+-- what is due comes first
+pub next_collects : (p : Program) (a : NamedHeap) (t last : ℕ) → (thread_at a t).ended ≡ false → due (thread_at a t) ≡ Some last →
+    nexts.Collect last ≡ next p a t
+unfolding next
+next_collects p a t last e is_due =
+    ap (λ (o : Option ℕ). next_unless_due o (next_command a t (command_at p a t))) (sym is_due)
     ∙ ap (λ (b : Bool). if b then nexts.Done else next_unless_due (due (thread_at a t)) (next_command a t (command_at p a t))) (sym e)
 
 -- an open page is a page

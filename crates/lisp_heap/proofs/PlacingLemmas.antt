@@ -31,7 +31,7 @@ use Rattle.word_space.specs.Space.{written}
 use Rattle.lisp_heap.specs.CellsView.{with_cell_word}
 use Rattle.lisp_heap.specs.Commits.{CanFill, IsCommit, pages_filled}
 use Rattle.lisp_heap.specs.Parts.{Parts}
-use Rattle.lisp_heap.specs.Standing.{Holds, CellsStand, LabelsStand}
+use Rattle.lisp_heap.specs.Standing.{Holds, CellsStand, LabelsStand, pins_of}
 use Rattle.lisp_heap.specs.State.{state_of, state_placed, with_placed, fresh_state}
 use Rattle.lisp_heap.specs.View.{View}
 use Rattle.lisp_heap.specs.WorldSound.{IsSound, view_of}
@@ -44,7 +44,7 @@ use Rattle.lisp_heap.proofs.Filling.{Fills, fills}
 use Rattle.lisp_heap.proofs.ObjectLemmas.{word_of-push}
 use Rattle.lisp_heap.proofs.Soundness.{heap, well_formed}
 use Rattle.lisp_heap.proofs.Threads.{thread_at-same}
-use Rattle.lisp_heap.proofs.Unchanged.{with_cell-objects, with_cell-pages, with_cell-states, state_read, states_set}
+use Rattle.lisp_heap.proofs.Unchanged.{with_cell-objects, with_cell-pages, with_cell-states, with_cell-pins, with_thread-pins, state_read, states_set}
 use Rattle.lisp_heap.proofs.Wanted.{builds_wish, making_most, size_most, wish_making}
 
 -- what a commit is told, of the World as it was looked into
@@ -93,6 +93,13 @@ used_raws : (th : Thread) (size : ℕ) → (run_used th size).raws ≡ th.raws
 used_raws th size = by_size (is_small size)
   where
     by_size : (b : Bool) → (if b then th else record th { open_run = None }).raws ≡ th.raws
+    by_size true = refl
+    by_size false = refl
+
+used_pins : (th : Thread) (size : ℕ) → (run_used th size).pins ≡ th.pins
+used_pins th size = by_size (is_small size)
+  where
+    by_size : (b : Bool) → (if b then th else record th { open_run = None }).pins ≡ th.pins
     by_size true = refl
     by_size false = refl
 
@@ -287,6 +294,12 @@ module _ (s : Inside) (h : IsSound s) (t : ℕ) (c : Command) (d : Cell) (index 
       ∙ states_set celled (set s.states t (state_of (run_used th size))) t (record (thread_at celled t) { done = (thread_at celled t).done + 1 })
       (state_placed (get_or s.states t fresh_state) size) used moved
 
+  pins_stand : s.pins ≡ map pins_of placed_heap.threads
+  pins_stand =
+      h.holds.pins ∙ sym (with_thread-pins a t (run_used (thread_at a t) size) (used_pins (thread_at a t) size))
+      ∙ sym (with_cell-pins pushed t d (values.Ref (length a.objects)))
+      ∙ sym (with_thread-pins celled t (record (thread_at celled t) { done = (thread_at celled t).done + 1 }) refl)
+
   commits_stand : s.commits + 1 ≡ length placed_heap.objects
   commits_stand =
       let grown : length new_objects ≡ length a.objects + 1 = length-append a.objects (Some object ∷ []) in
@@ -299,9 +312,10 @@ module _ (s : Inside) (h : IsSound s) (t : ℕ) (c : Command) (d : Cell) (index 
     labels = set s.labels (index / 2) (length a.objects);
     cells = with_cell_word s.cells t d (reference_word index kind);
     states = with_placed s.states t size;
+    pins = s.pins;
     commits = s.commits + 1;
   }
 
   pub placed_holds : Holds (after s.program a event) parts_now
   placed_holds = subst (λ (b : NamedHeap). Holds b parts_now) (sym placed_after)
-      (record { words = words_stand; pages = pages_stand; labels = labels_stand; cells = cells_stand; states = states_stand; commits = commits_stand })
+      (record { words = words_stand; pages = pages_stand; labels = labels_stand; cells = cells_stand; states = states_stand; pins = pins_stand; commits = commits_stand })

@@ -1,11 +1,11 @@
 -- What the commands that allocate nothing answer and change.
-use Rattle.std.proofs.Common.{◌≡◌, ℕ, ◌+◌, ◌-◌, ◌<◌, ◌≤◌, eqb, true, false, List, length, refl, sym, ◌∙◌, subst, ap, arith, get_or, set, length-set, Option, Some, None, Bool, ℤ, FitsSigned, w64, pos, negsuc}
+use Rattle.std.proofs.Common.{◌≡◌, ℕ, ◌+◌, ◌-◌, ◌<◌, ◌≤◌, eqb, ltb, true, false, List, [], ◌∷◌, ◌++◌, length, refl, sym, ◌∙◌, subst, ap, arith, get_or, set, length-set, Option, Some, None, Bool, ℤ, FitsSigned, w64, pos, negsuc}
 use Rattle.std.proofs.lemmas.Bool.{lt-ltb, le-ltb, eq-eqb, ne_eqb}
 use Rattle.std.proofs.lemmas.Option.{slice_get_within}
 use Rattle.std.specs.Prelude.{if◌then◌else◌, option_and_then}
 use Rattle.heap_terms.specs.declared.answers.Answer.{Answer}
 use Rattle.heap_terms.specs.declared.answers.Answer.TheVariants as answers
-use Rattle.heap_terms.specs.declared.answers.Refusal.TheVariants.{NotType, OutOfRange, Nothing}
+use Rattle.heap_terms.specs.declared.answers.Refusal.TheVariants.{NotType, OutOfRange, Nothing, PinsFull}
 use Rattle.heap_terms.specs.declared.cells.Cell.{Cell}
 use Rattle.heap_terms.specs.declared.cells.Raw.{Raw}
 use Rattle.heap_terms.specs.declared.cells.Value.{Value}
@@ -18,6 +18,8 @@ use Rattle.heap_terms.specs.Layout.{fixnum_word, nil_word}
 use Rattle.heap_terms.specs.Objects.{Object, Contents, WordsOf, kind_of, payload_of, fields_of}
 use Rattle.heap_terms.specs.Outcome.{Outcome, done, answering, refused, needing, indexing}
 use Rattle.heap_terms.specs.Outcomes.{outcome_of}
+use Rattle.heap_terms.specs.Outcomes.CollectionCommands.{owing}
+use Rattle.heap_terms.specs.Outcomes.PinCommands.{with_pins}
 use Rattle.heap_terms.specs.Outcomes.RawCommands.{taking}
 use Rattle.heap_terms.specs.Pairs.{same_value}
 use Rattle.heap_terms.specs.RawCells.{raw_value, with_raw, word_plus}
@@ -27,6 +29,7 @@ use Rattle.heap_terms.specs.Valid.{IsCell, IsRaw, IsFixnum}
 use Rattle.heap_terms.specs.Spelling.{word_of}
 use Rattle.heap_laws.proofs.Reading.{with_field-kind, with_field-payload}
 use Rattle.lisp_heap.specs.LivingWords.{RefersTo, header_words}
+use Rattle.lisp_heap.specs.PinsView.{but_last}
 use Rattle.lisp_heap.specs.Plan.{IsPlan, Makes}
 use Rattle.lisp_heap.specs.declared.plan.Change.{Change}
 use Rattle.lisp_heap.specs.declared.plan.Change.TheVariants as changes
@@ -315,6 +318,61 @@ allowed_is a t count is some =
     let other : eqb (thread_at a t).inhibits 0 ≡ false = ne_eqb (thread_at a t).inhibits 0 (λ e. some (is ∙ e)) in
     planned a t commands.Allow (done (with_thread a t (record (thread_at a t) { inhibits = (thread_at a t).inhibits - 1 }))) answers.Done (changes.Inhibits (count - 1))
     (ap (allow_by a t) other) refl (ap (λ (n : ℕ). with_thread a t (record (thread_at a t) { inhibits = n - 1 })) (sym is))
+
+-- ---- pins
+
+pin_outcome : (a : NamedHeap) (t : ℕ) (c : Cell) → outcome_of a t (commands.Pin c)
+    ≡ (if ltb (length (thread_at a t).pins) 32 then done (with_pins a t ((thread_at a t).pins ++ word_of a.objects (cell_value a t c) ∷ [])) else refused PinsFull a)
+unfolding outcome_of
+pin_outcome a t c = refl
+
+pub pinned_none : (a : NamedHeap) (t : ℕ) (c : Cell) (pins : List ℕ) → pins ≡ (thread_at a t).pins → 32 ≤ length pins →
+    IsPlan a t (commands.Pin c) (answers.Refused PinsFull) changes.Nothing
+pinned_none a t c pins is full =
+    let test : ltb (length (thread_at a t).pins) 32 ≡ false = subst (λ (ws : List ℕ). ltb (length ws) 32 ≡ false) is (le-ltb (length pins) 32 full) in
+    planned a t (commands.Pin c) (refused PinsFull a) (answers.Refused PinsFull) changes.Nothing
+    (pin_outcome a t c ∙ ap (λ (b : Bool). if b then done (with_pins a t ((thread_at a t).pins ++ word_of a.objects (cell_value a t c) ∷ [])) else refused PinsFull a) test)
+    refl refl
+
+pub pinned_is : (a : NamedHeap) (t : ℕ) (c : Cell) (word : ℕ) (pins : List ℕ) → pins ≡ (thread_at a t).pins → length pins < 32 → word ≡ word_of a.objects (cell_value a t c) →
+    IsPlan a t (commands.Pin c) answers.Done (changes.PushPin word)
+pinned_is a t c word pins is room word_is =
+    let new = with_pins a t ((thread_at a t).pins ++ word_of a.objects (cell_value a t c) ∷ []) in
+    let low : length (thread_at a t).pins < 32 = subst (λ (ws : List ℕ). length ws < 32) is room in
+    planned a t (commands.Pin c) (done new) answers.Done (changes.PushPin word)
+    (pin_outcome a t c ∙ ap (λ (b : Bool). if b then done new else refused PinsFull a) (lt-ltb (length (thread_at a t).pins) 32 low))
+    refl
+    (record { room = low; effect = ap (λ (x : ℕ). with_pins a t ((thread_at a t).pins ++ x ∷ [])) (sym word_is) })
+
+unpin_outcome : (a : NamedHeap) (t : ℕ) → outcome_of a t commands.Unpin
+    ≡ (if eqb (length (thread_at a t).pins) 0 then refused Nothing a else done (with_pins a t (but_last (thread_at a t).pins)))
+unfolding outcome_of
+unpin_outcome a t = refl
+
+pub unpinned_none : (a : NamedHeap) (t : ℕ) (pins : List ℕ) → pins ≡ (thread_at a t).pins → length pins ≡ 0 →
+    IsPlan a t commands.Unpin (answers.Refused Nothing) changes.Nothing
+unpinned_none a t pins is none =
+    let test : eqb (length (thread_at a t).pins) 0 ≡ true = subst (λ (ws : List ℕ). eqb (length ws) 0 ≡ true) is (eq-eqb (length pins) 0 none) in
+    planned a t commands.Unpin (refused Nothing a) (answers.Refused Nothing) changes.Nothing
+    (unpin_outcome a t ∙ ap (λ (b : Bool). if b then refused Nothing a else done (with_pins a t (but_last (thread_at a t).pins))) test) refl refl
+
+pub unpinned_is : (a : NamedHeap) (t : ℕ) (pins : List ℕ) → pins ≡ (thread_at a t).pins → (length pins ≡ 0 → ⊥) →
+    IsPlan a t commands.Unpin answers.Done changes.PopPin
+unpinned_is a t pins is some =
+    let test : eqb (length (thread_at a t).pins) 0 ≡ false = subst (λ (ws : List ℕ). eqb (length ws) 0 ≡ false) is (ne_eqb (length pins) 0 some) in
+    planned a t commands.Unpin (done (with_pins a t (but_last (thread_at a t).pins))) answers.Done changes.PopPin
+    (unpin_outcome a t ∙ ap (λ (b : Bool). if b then refused Nothing a else done (with_pins a t (but_last (thread_at a t).pins))) test) refl refl
+
+-- ---- owed collections
+
+pub asked_is : (a : NamedHeap) (t g last : ℕ) (owed : Option ℕ) → owed ≡ (thread_at a t).owed → owing owed g ≡ Some last →
+    IsPlan a t (commands.Collect g) answers.Done (changes.Owes last)
+unfolding outcome_of
+asked_is a t g last owed is greater = record {
+  answers = refl;
+  makes = ap (λ (o : Option ℕ). with_thread a t (record (thread_at a t) { owed = owing o g })) (sym is)
+      ∙ ap (λ (o : Option ℕ). with_thread a t (record (thread_at a t) { owed = o })) greater;
+}
 
 -- a fixnum is a signed number of 64 bits
 pub fixnum_fits : (n : ℤ) → IsFixnum n → FitsSigned w64 n

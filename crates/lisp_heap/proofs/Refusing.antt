@@ -53,7 +53,7 @@ module _ (s : Inside) (h : IsSound s) (t : ℕ) (c : Command) (lt : t < length s
       let is_moved : moved ≡ state_of (record (thread_at a t) { done = (thread_at a t).done + 1 }) =
       ap (λ (x : ThreadState). record x { done = x.done + 1 }) here in
       subst (λ (b : NamedHeap). Holds b (record (parts_of s) { states = advanced s.states t })) (sym refused_after)
-      (Holds-thread a (parts_of s) t (record (thread_at a t) { done = (thread_at a t).done + 1 }) moved refl refl refl is_moved h.holds)
+      (Holds-thread a (parts_of s) t (record (thread_at a t) { done = (thread_at a t).done + 1 }) moved refl refl refl refl is_moved h.holds)
 
   pub refused_agrees : (q : ParcelView) → Agrees (heap s) q → Agrees (after s.program (heap s) (Did t c (answers.Refused Exhausted))) q
   refused_agrees q agrees =

@@ -24,7 +24,7 @@ use Rattle.lisp_heap.proofs.CellLemmas.{CellsStand-with_thread}
 use Rattle.lisp_heap.proofs.ParcelParts.{agrees_from, page_other, page_run, page_same, page_state, run_pages, run_small, run_stays, small_other, small_owner, small_run, small_same, small_stays, types_cases}
 use Rattle.lisp_heap.proofs.Soundness.{heap, well_formed}
 use Rattle.lisp_heap.proofs.Threads.{thread_at-same}
-use Rattle.lisp_heap.proofs.Unchanged.{state_read, states_set}
+use Rattle.lisp_heap.proofs.Unchanged.{state_read, states_set, with_thread-pins}
 
 -- a page that was taken holds nothing
 none_below : (i : ℕ) → i < 0 → ⊥
@@ -118,6 +118,7 @@ module _ (s : Inside) (h : IsSound s) (t : ℕ) (ty : PageType) (first k : ℕ) 
         };
         states = states_set a s.states t opened_thread (state_with_region (get_or s.states t fresh_state) ty first k) h.holds.states
             (ap (λ (x : ThreadState). state_with_region x ty first k) state_here ∙ region_state (thread_at a t) ty first k);
+        pins = h.holds.pins ∙ sym (with_thread-pins a t opened_thread same.pins);
         commits = h.holds.commits;
       }
 

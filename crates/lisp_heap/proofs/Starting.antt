@@ -1,5 +1,5 @@
 -- What a World keeps before its first event stands for the heap at the start.
-use Rattle.std.proofs.Common.{◌≡◌, ℕ, ◌*◌, ◌<◌, List, [], ◌∷◌, length, map, replicate, refl, sym, ◌∙◌, subst, ap, arith, get_or, Option}
+use Rattle.std.proofs.Common.{◌≡◌, ℕ, ◌*◌, ◌<◌, List, [], ◌∷◌, length, map, replicate, refl, sym, ◌∙◌, subst, ap, arith, get_or, Option, None, Some}
 use Rattle.std.proofs.lemmas.List.{length-replicate, length-map, get_or-replicate}
 use Rattle.heap_terms.specs.declared.commands.Command.{Command}
 use Rattle.heap_terms.specs.declared.events.Event.{Event}
@@ -16,7 +16,8 @@ use Rattle.heap_laws.proofs.SoundHeaps.{start_thread_is, start_free}
 use Rattle.lisp_heap.specs.CellsView.{spot, raw_spot, zero_cells}
 use Rattle.lisp_heap.specs.WorldSound.{IsSound, parts_of}
 use Rattle.lisp_heap.specs.Parts.{page_labels, fresh_parts}
-use Rattle.lisp_heap.specs.Standing.{CellsStand, LabelsStand, Holds}
+use Rattle.lisp_heap.specs.Standing.{CellsStand, LabelsStand, Holds, pins_of}
+use Rattle.lisp_heap.specs.declared.scratch.Scratch.{Scratch}
 use Rattle.lisp_heap.specs.State.{state_of, fresh_state}
 use Rattle.lisp_heap.specs.declared.states.ThreadState.{ThreadState}
 use Rattle.lisp_heap.specs.declared.world.World.TheInside.{Inside}
@@ -88,6 +89,14 @@ start_states p = each p.threads
     each [] = refl
     each (s ∷ scripts) = ap (λ (xs : List ThreadState). fresh_state ∷ xs) (each scripts)
 
+start_pins : (p : Program) → replicate (length p.threads) [] ≡ map pins_of (start p).threads
+unfolding start
+start_pins p = each p.threads
+  where
+    each : (scripts : List (List Command)) → replicate (length scripts) [] ≡ map pins_of (map (λ _. fresh_thread) scripts)
+    each [] = refl
+    each (s ∷ scripts) = ap (λ (xs : List (List ℕ)). [] ∷ xs) (each scripts)
+
 start_pages : (p : Program) → replicate p.pages Free ≡ (start p).pages
 unfolding start
 start_pages p = refl
@@ -103,20 +112,25 @@ holds_start p = record {
   labels = start_labels p;
   cells = start_stands p;
   states = start_states p;
+  pins = start_pins p;
   commits = start_commits p;
 }
 
+no_scratch : (o : Option Scratch) (x : Scratch) → o ≡ None → o ≡ Some x → ⊥
+no_scratch o x none some = cc
+
 -- the fields of a World without a history
-pub starts_sound : (s : Inside) → IsValid s.program → s.history.items ≡ [] → parts_of s ≡ fresh_parts s.program → IsSound s
-starts_sound s valid empty parts = record {
+pub starts_sound : (s : Inside) → IsValid s.program → s.history.items ≡ [] → parts_of s ≡ fresh_parts s.program → s.scratch ≡ None → IsSound s
+starts_sound s valid empty parts scratch = record {
   valid = valid;
   lawful = subst (λ (es : List Event). Lawful s.program es) (sym empty) tt;
   holds = subst (λ (es : List Event). Holds (replay s.program es) (parts_of s)) (sym empty)
       (subst (Holds (start s.program)) (sym parts) (holds_start s.program));
+  scratch = λ x e. absurd (no_scratch s.scratch x scratch e);
 }
 
 -- a World whose fields are as at the start
 pub fresh_is : (s : Inside) → s.space ≡ replicate (page_words * s.program.pages) 0 → s.pages ≡ replicate s.program.pages Free →
     s.labels ≡ replicate (page_labels * s.program.pages) 0 → s.cells ≡ zero_cells (length s.program.threads) →
-    s.states ≡ replicate (length s.program.threads) fresh_state → s.commits ≡ 0 → parts_of s ≡ fresh_parts s.program
-fresh_is s words pages labels cells states commits = cc
+    s.states ≡ replicate (length s.program.threads) fresh_state → s.pins ≡ replicate (length s.program.threads) [] → s.commits ≡ 0 → parts_of s ≡ fresh_parts s.program
+fresh_is s words pages labels cells states pins commits = cc

@@ -3,6 +3,7 @@ use Rattle.std.proofs.Common.{◌≡◌, ℕ, ◌+◌, ◌<◌, ◌≤◌, ◌^�
 use Rattle.std.proofs.lemmas.List.Sums.{get_or-le-sum_by}
 use Rattle.std.proofs.lemmas.List.{length-map}
 use Rattle.std.proofs.lemmas.Option.{get_or_from_slice_get}
+use Rattle.std.specs.Option.{ForSome}
 use Rattle.std.specs.Prelude.{slice_get, IsSome}
 use Rattle.heap_terms.specs.declared.answers.Answer.{Answer}
 use Rattle.heap_terms.specs.declared.commands.Command.{Command}
@@ -26,7 +27,8 @@ use Rattle.lisp_heap.specs.Agreement.{Agrees}
 use Rattle.lisp_heap.specs.Events.{Happens}
 use Rattle.lisp_heap.specs.Plan.{IsPlan, Makes, CanChange, states_after}
 use Rattle.lisp_heap.specs.ParcelView.{ParcelView}
-use Rattle.lisp_heap.specs.WorldSound.{IsSound, view_of, parts_of}
+use Rattle.lisp_heap.specs.PinsView.{but_last}
+use Rattle.lisp_heap.specs.WorldSound.{IsSound, IsRoomFor, view_of, parts_of}
 use Rattle.lisp_heap.specs.Parts.{Parts}
 use Rattle.lisp_heap.specs.Standing.{Holds}
 use Rattle.lisp_heap.specs.State.{state_of, advanced, fresh_state}
@@ -39,7 +41,7 @@ use Rattle.lisp_heap.proofs.Agreeing.{Agrees-same, Agrees-thread, states_at}
 use Rattle.lisp_heap.proofs.PerformLemmas.{Holds-change, Holds-thread, parts_after}
 use Rattle.lisp_heap.proofs.PutLemmas.{slots_count}
 use Rattle.lisp_heap.proofs.Threads.{thread_at-same}
-use Rattle.lisp_heap.proofs.Soundness.{heap, well_formed, cells_room}
+use Rattle.lisp_heap.proofs.Soundness.{heap, well_formed, cells_room, pin_room}
 use Rattle.lisp_heap.proofs.Unchanged.{with_cell-pages, with_cell-states, with_raw-states, state_read}
 
 -- what a sound World keeps, by its parts
@@ -50,8 +52,8 @@ record IsSoundAt (p : Program) (es : List Event) (v : Parts) : Type 0 where
 
 -- one event more, and parts that stand for the heap after it
 pub sound_after : (s r : Inside) (e : Event) → IsSound s → r.program ≡ s.program → r.history.items ≡ s.history.items ++ e ∷ [] →
-    IsNext s.program (heap s) e → Holds (after s.program (heap s) e) (parts_of r) → IsSound r
-sound_after s r e h program history lawful holds =
+    IsNext s.program (heap s) e → ForSome r.scratch (IsRoomFor r.program) → Holds (after s.program (heap s) e) (parts_of r) → IsSound r
+sound_after s r e h program history lawful scratch holds =
     let on : IsSoundAt s.program r.history.items (parts_of r) = record {
       valid = h.valid;
       lawful = subst (λ (es : List Event). Lawful s.program es) (sym history) (Lawful-push s.program s.history.items e h.lawful lawful);
@@ -59,7 +61,7 @@ sound_after s r e h program history lawful holds =
           (subst (λ (a : NamedHeap). Holds a (parts_of r)) (sym (replay-push s.program s.history.items e)) holds);
     } in
     let there : IsSoundAt r.program r.history.items (parts_of r) = subst (λ (p : Program). IsSoundAt p r.history.items (parts_of r)) (sym program) on in
-    record { valid = there.valid; lawful = there.lawful; holds = there.holds }
+    record { valid = there.valid; lawful = there.lawful; holds = there.holds; scratch = scratch }
 
 pub happens_after : (s r : Inside) (w : View) (t : ℕ) (e : Event) → view_of s ≡ w → r.program ≡ s.program → r.history.items ≡ s.history.items ++ e ∷ [] →
     thread_of e ≡ t → IsNext s.program (heap s) e → IsSound r → Happens t w (view_of r)
@@ -96,6 +98,12 @@ makes_agrees a t new (changes.InSpace index word) m q h =
     subst (λ (b : NamedHeap). Agrees b q) (sym m.effect) (Agrees-same a (record a { objects = set a.objects m.name (Some (record m.object { contents = m.contents })) }) q refl refl h)
 makes_agrees a t new (changes.Inhibits count) m q h =
     subst (λ (b : NamedHeap). Agrees b q) (sym m) (Agrees-thread a t (record (thread_at a t) { inhibits = count }) q refl refl refl refl h)
+makes_agrees a t new (changes.Owes last) m q h =
+    subst (λ (b : NamedHeap). Agrees b q) (sym m) (Agrees-thread a t (record (thread_at a t) { owed = Some last }) q refl refl refl refl h)
+makes_agrees a t new (changes.PushPin word) m q h =
+    subst (λ (b : NamedHeap). Agrees b q) (sym m.effect) (Agrees-thread a t (record (thread_at a t) { pins = (thread_at a t).pins ++ word ∷ [] }) q refl refl refl refl h)
+makes_agrees a t new changes.PopPin m q h =
+    subst (λ (b : NamedHeap). Agrees b q) (sym m) (Agrees-thread a t (record (thread_at a t) { pins = but_last (thread_at a t).pins }) q refl refl refl refl h)
 
 -- and the thread as far as it was
 makes_done : (a : NamedHeap) (t : ℕ) (new : NamedHeap) (change : Change) → t < length a.threads → Makes a t new change → (thread_at new t).done ≡ (thread_at a t).done
@@ -107,6 +115,13 @@ makes_done a t new (changes.InRaw r word) l m =
 makes_done a t new (changes.InSpace index word) l m = ap (λ (b : NamedHeap). (thread_at b t).done) m.effect
 makes_done a t new (changes.Inhibits count) l m =
     ap (λ (b : NamedHeap). (thread_at b t).done) m ∙ ap (λ (x : Thread). x.done) (thread_at-same a t (record (thread_at a t) { inhibits = count }) l)
+makes_done a t new (changes.Owes last) l m =
+    ap (λ (b : NamedHeap). (thread_at b t).done) m ∙ ap (λ (x : Thread). x.done) (thread_at-same a t (record (thread_at a t) { owed = Some last }) l)
+makes_done a t new (changes.PushPin word) l m =
+    ap (λ (b : NamedHeap). (thread_at b t).done) m.effect
+    ∙ ap (λ (x : Thread). x.done) (thread_at-same a t (record (thread_at a t) { pins = (thread_at a t).pins ++ word ∷ [] }) l)
+makes_done a t new changes.PopPin l m =
+    ap (λ (b : NamedHeap). (thread_at b t).done) m ∙ ap (λ (x : Thread). x.done) (thread_at-same a t (record (thread_at a t) { pins = but_last (thread_at a t).pins }) l)
 
 -- a thread with a command is not at the end of its script, which is short
 pub done_small : (s : Inside) → IsSound s → (t : ℕ) (c : Command) → t < length s.program.threads → command_at s.program (heap s) t ≡ Some c →
@@ -158,7 +173,7 @@ module _ (s : Inside) (h : IsSound s) (t : ℕ) (c : Command) (answer : Answer) 
       let is_moved : moved ≡ state_of (record (thread_at b t) { done = (thread_at b t).done + 1 }) =
       ap (λ (x : ThreadState). record x { done = x.done + 1 }) state_here in
       subst (λ (a : NamedHeap). Holds a (record (parts_after (parts_of s) t change) { states = advanced states t })) (sym did_after)
-      (Holds-thread b (parts_after (parts_of s) t change) t (record (thread_at b t) { done = (thread_at b t).done + 1 }) moved refl refl refl is_moved effect_holds)
+      (Holds-thread b (parts_after (parts_of s) t change) t (record (thread_at b t) { done = (thread_at b t).done + 1 }) moved refl refl refl refl is_moved effect_holds)
 
   pub did_agrees : (q : ParcelView) → Agrees (heap s) q → Agrees (after s.program (heap s) (Did t c answer)) q
   did_agrees q agrees =
@@ -180,10 +195,10 @@ module _ (s : Inside) (h : IsSound s) (t : ℕ) (c : Command) (answer : Answer) 
       let below : t < length (heap s).threads = omega (arith, (well_formed s h).threads_length, lt) in
       omega (arith, same, makes_done (heap s) t b change below is.makes, done_small s h t c lt at)
 
-  pub can_change : CanChange s.cells s.space t change
+  pub can_change : CanChange s.cells s.space s.pins t change
   can_change = by_change change is.makes
     where
-      by_change : (k : Change) → Makes (heap s) t (outcome_of (heap s) t c).heap k → CanChange s.cells s.space t k
+      by_change : (k : Change) → Makes (heap s) t (outcome_of (heap s) t c).heap k → CanChange s.cells s.space s.pins t k
       by_change changes.Nothing m = tt
       by_change (changes.InCell cell word) m = (m.is_cell, cells_room s t h lt)
       by_change (changes.InRaw r word) m = (m.is_raw, cells_room s t h lt)
@@ -191,6 +206,9 @@ module _ (s : Inside) (h : IsSound s) (t : ℕ) (c : Command) (answer : Answer) 
           let sound = (well_formed s h).sound in
           omega (arith, (sound.objects m.name m.object m.there).placed.inside, slots_count (heap s) m.name m.object sound m.there, h.holds.words.long, m.at_index, m.within)
       by_change (changes.Inhibits count) m = tt
+      by_change (changes.Owes last) m = tt
+      by_change (changes.PushPin word) m = pin_room s h t lt m.room
+      by_change changes.PopPin m = tt
 
 pub state_room : (s : Inside) → IsSound s → (t : ℕ) (c : Command) → t < length s.program.threads → command_at s.program (heap s) t ≡ Some c →
     (x : ThreadState) → slice_get s.states t ≡ Some x → x.done + 1 < 2 ^ 64

@@ -15,7 +15,7 @@ use Rattle.heap_terms.specs.Objects.{Object}
 use Rattle.heap_terms.specs.RawCells.{with_raw}
 use Rattle.heap_terms.specs.Stands.{WordsStand, SlotsStand, KeptStand}
 use Rattle.heap_terms.specs.WellFormed.{IsOwned}
-use Rattle.lisp_heap.specs.Standing.{LabelsStand}
+use Rattle.lisp_heap.specs.Standing.{LabelsStand, pins_of}
 use Rattle.lisp_heap.specs.State.{state_of}
 use Rattle.lisp_heap.specs.declared.states.ThreadState.{ThreadState}
 
@@ -52,7 +52,19 @@ with_cell-states a t (Stack i) v = map-set_same state_of a.threads t (record (th
 with_cell-states a t (Exact i) v = map-set_same state_of a.threads t (record (thread_at a t) { exact = slice_set (thread_at a t).exact i v }) _ refl
 with_cell-states a t (Shared i) v = refl
 
+pub with_cell-pins : (a : NamedHeap) (t : ℕ) (cell : Cell) (v : Value) → map pins_of (with_cell a t cell v).threads ≡ map pins_of a.threads
+with_cell-pins a t (Stack i) v = map-set_same pins_of a.threads t (record (thread_at a t) { stack = slice_set (thread_at a t).stack i v }) _ refl
+with_cell-pins a t (Exact i) v = map-set_same pins_of a.threads t (record (thread_at a t) { exact = slice_set (thread_at a t).exact i v }) _ refl
+with_cell-pins a t (Shared i) v = refl
+
 -- and so does a write of a raw cell
+pub with_raw-pins : (a : NamedHeap) (t : ℕ) (r : Raw) (word : ℕ) → map pins_of (with_raw a t r word).threads ≡ map pins_of a.threads
+with_raw-pins a t r word = map-set_same pins_of a.threads t (record (thread_at a t) { raws = slice_set (thread_at a t).raws r.0 word }) _ refl
+
+-- likewise a change of a thread that leaves its pins
+pub with_thread-pins : (a : NamedHeap) (t : ℕ) (th : Thread) → th.pins ≡ (thread_at a t).pins → map pins_of (with_thread a t th).threads ≡ map pins_of a.threads
+with_thread-pins a t th same = map-set_same pins_of a.threads t th _ same
+
 pub with_raw-states : (a : NamedHeap) (t : ℕ) (r : Raw) (word : ℕ) → map state_of (with_raw a t r word).threads ≡ map state_of a.threads
 with_raw-states a t r word = map-set_same state_of a.threads t (record (thread_at a t) { raws = slice_set (thread_at a t).raws r.0 word }) _ refl
 
@@ -71,3 +83,14 @@ pub states_set : (a : NamedHeap) (states : List ThreadState) (t : ℕ) (th : Thr
     state ≡ state_of th → set states t state ≡ map state_of (with_thread a t th).threads
 states_set a states t th state is same =
     ap (λ (xs : List ThreadState). set xs t state) is ∙ ap (set (map state_of a.threads) t) same ∙ sym (map-set state_of a.threads t th)
+
+-- the pins of a thread among those of all
+pub pins_read : (a : NamedHeap) (pins : List (List ℕ)) (t : ℕ) (d : List ℕ) → pins ≡ map pins_of a.threads → t < length a.threads →
+    get_or pins t d ≡ (thread_at a t).pins
+pins_read a pins t d is h = ap (λ (xs : List (List ℕ)). get_or xs t d) is ∙ get_or-map pins_of a.threads t _ d h
+
+-- the pins of a thread changed, and no others
+pub pins_set : (a : NamedHeap) (pins : List (List ℕ)) (t : ℕ) (th : Thread) (words : List ℕ) → pins ≡ map pins_of a.threads → words ≡ th.pins →
+    set pins t words ≡ map pins_of (with_thread a t th).threads
+pins_set a pins t th words is same =
+    ap (λ (xs : List (List ℕ)). set xs t words) is ∙ ap (set (map pins_of a.threads) t) same ∙ sym (map-set pins_of a.threads t th)

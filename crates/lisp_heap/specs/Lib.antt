@@ -1,5 +1,6 @@
 pub mod CellsView
 pub mod State
+pub mod PinsView
 pub mod Parts
 pub mod View
 pub mod ParcelView

@@ -1,5 +1,5 @@
 -- What a World keeps beside its program and its history.
-use Rattle.std.specs.Prelude.{ℕ, ◌*◌, List, length, replicate}
+use Rattle.std.specs.Prelude.{ℕ, ◌*◌, List, [], length, replicate}
 use Rattle.heap_terms.specs.declared.pages.Entry.{Entry}
 use Rattle.heap_terms.specs.declared.pages.Entry.TheVariants as entries
 use Rattle.heap_terms.specs.declared.programs.Program.{Program}
@@ -13,16 +13,19 @@ abbrev pub page_labels : ℕ
 page_labels = 256
 
 -- The words of the space, the entry of each page, the label of each double word, the words in the cells, of each
--- thread its place in its script and its open regions, and how many objects were committed.
+-- thread its place in its script, what it owes and its open regions, the pins of each thread, and how many objects were
+-- committed.
 pub record Parts : Type 0 where
   pub words : List ℕ
   pub pages : List Entry
   pub labels : List ℕ
   pub cells : CellsView
   pub states : List ThreadState
+  pub pins : List (List ℕ)
   pub commits : ℕ
 
--- before the first event: every word, label and cell is 0, every page is free, and no thread has done anything
+-- before the first event: every word, label and cell is 0, every page is free, no thread has done anything, and nothing
+-- is pinned
 abbrev pub fresh_parts : Program → Parts
 fresh_parts p = record {
   words = replicate (page_words * p.pages) 0;
@@ -30,5 +33,6 @@ fresh_parts p = record {
   labels = replicate (page_labels * p.pages) 0;
   cells = zero_cells (length p.threads);
   states = replicate (length p.threads) fresh_state;
+  pins = replicate (length p.threads) [];
   commits = 0;
 }

@@ -1,6 +1,6 @@
 -- When what a World keeps stands for a named heap.
 use Rattle.std.specs.Prelude.{◌≡◌, ℕ, ◌*◌, ◌/◌, ◌<◌, List, length, map, IfSome, slice_index, slice_index_or}
-use Rattle.heap_terms.specs.Heap.{NamedHeap, thread_at, object_at, zero_value}
+use Rattle.heap_terms.specs.Heap.{NamedHeap, Thread, thread_at, object_at, zero_value}
 use Rattle.heap_terms.specs.Stands.{WordsStand}
 use Rattle.heap_terms.specs.Spelling.{word_of}
 use Rattle.lisp_heap.specs.CellsView.{CellsView, cells_each, raws_each, spot, raw_spot}
@@ -26,6 +26,10 @@ pub record LabelsStand (a : NamedHeap) (labels : List ℕ) : Type 0 where
   pub long : length labels ≡ page_labels * length a.pages
   pub named : (name : ℕ) → IfSome (object_at a.objects name) (λ o. slice_index labels (o.place / 2) ≡ name)
 
+-- the pins of a thread, the latest last
+abbrev pub pins_of : Thread → List ℕ
+pins_of th = th.pins
+
 -- all that a World keeps stands for a named heap
 pub record Holds (a : NamedHeap) (v : Parts) : Type 0 where
   pub words : WordsStand a v.words
@@ -33,4 +37,5 @@ pub record Holds (a : NamedHeap) (v : Parts) : Type 0 where
   pub labels : LabelsStand a v.labels
   pub cells : CellsStand a v.cells
   pub states : v.states ≡ map state_of a.threads
+  pub pins : v.pins ≡ map pins_of a.threads
   pub commits : v.commits ≡ length a.objects

@@ -7,19 +7,24 @@ use Rattle.heap_terms.specs.Regions.{is_small}
 use Rattle.lisp_heap.specs.declared.states.ThreadState.{ThreadState}
 
 abbrev pub fresh_state : ThreadState
-fresh_state = record { done = 0; inhibits = 0; ended = false; cons_page = None; boxed_page = None; unboxed_page = None; open_run = None }
+fresh_state = record { done = 0; inhibits = 0; owed = None; ended = false; cons_page = None; boxed_page = None; unboxed_page = None; open_run = None }
 
 -- what the World keeps of a thread of the named heap
 abbrev pub state_of : Thread → ThreadState
 state_of th = record {
   done = th.done;
   inhibits = th.inhibits;
+  owed = th.owed;
   ended = th.ended;
   cons_page = th.cons_page;
   boxed_page = th.boxed_page;
   unboxed_page = th.unboxed_page;
   open_run = th.open_run;
 }
+
+-- the generation up to which a thread of a state must collect now
+abbrev pub state_due : ThreadState → Option ℕ
+state_due s = if s.inhibits == 0 then s.owed else None
 
 abbrev pub state_page : ThreadState → PageType → Option ℕ
 state_page s types.Cons = s.cons_page
@@ -58,6 +63,10 @@ with_placed states t size = slice_set states t (state_placed (slice_index_or sta
 -- the states with another inhibit count of one thread
 abbrev pub with_inhibits : List ThreadState → ℕ → ℕ → List ThreadState
 with_inhibits states t count = slice_set states t (record (slice_index_or states t fresh_state) { inhibits = count })
+
+-- the states with another generation up to which one thread owes a collection
+abbrev pub with_owed : List ThreadState → ℕ → Option ℕ → List ThreadState
+with_owed states t owed = slice_set states t (record (slice_index_or states t fresh_state) { owed = owed })
 
 -- the states after one thread has ended
 abbrev pub with_ended : List ThreadState → ℕ → List ThreadState

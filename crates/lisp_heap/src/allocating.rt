@@ -148,6 +148,7 @@ impl World {
     {
         self.history.push(Event::Ended { thread: t })?;
         self.cells.clear(t as usize);
+        self.pins.clear(t as usize);
         self.states.end(t as usize);
         Ok(())
     }

@@ -7,6 +7,7 @@ ghost use Rattle.lisp_heap.specs.Parts.{fresh_parts};
 
 use crate::cells::CellWords;
 use crate::parcels::Parcel;
+use crate::pins::Pins;
 use crate::states::States;
 use crate::world::World;
 use heap_terms::{Memory, Program};
@@ -54,6 +55,7 @@ impl World {
         let labels = Prefilled::new(alloc, PAGE_LABELS * program.pages as usize, 0)?;
         let cells = CellWords::new(alloc, threads)?;
         let states = States::fresh(alloc, threads)?;
+        let pins = Pins::none(alloc, threads)?;
         let history = Vec::with_capacity(alloc, events_of(&program))?;
         let parcels = fresh_parcels(alloc, threads as u32)?;
         let world = World {
@@ -64,8 +66,10 @@ impl World {
             labels,
             cells,
             states,
+            pins,
             commits: 0,
             history,
+            scratch: None,
         };
         Ok((world, parcels))
     }

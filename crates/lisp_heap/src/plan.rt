@@ -1,9 +1,10 @@
 //! What a command that allocates nothing does to the words.
 
 ghost use Rattle.std.specs.Prelude.{◌≡◌, ◌+◌, ◌*◌, ◌<◌, ◌≤◌, length};
-ghost use Rattle.lisp_heap.specs.Plan.{cells_after, states_after, words_after, CanChange};
+ghost use Rattle.lisp_heap.specs.Plan.{cells_after, pins_after, states_after, words_after, CanChange};
 
 use crate::cells::CellWords;
+use crate::pins::Pins;
 use crate::states::States;
 use heap_terms::{Answer, Cell, Raw, Refusal};
 use word_space::Space;
@@ -21,6 +22,12 @@ pub enum Change {
     InSpace { index: u32, word: u64 },
     /// The thread has this inhibit count.
     Inhibits { count: u32 },
+    /// The thread owes a collection up to this generation.
+    Owes { last: u8 },
+    /// This word goes on the thread's pins.
+    PushPin { word: u64 },
+    /// The latest of the thread's pins is taken off.
+    PopPin,
 }
 
 /// The answer of a command, and what it changes.
@@ -51,14 +58,17 @@ pub fn apply(
     cells: &mut CellWords,
     space: &mut Space,
     states: &mut States,
+    pins: &mut Pins,
     t: usize,
     change: Change,
 )
-    requires cells { CanChange cells.old space.old t change }
+    requires cells { CanChange cells.old space.old pins.old t change }
     requires thread { t < length states.old }
+    requires pinned { t < length pins.old }
     ensures cells { cells.new ≡ cells_after cells.old t change }
     ensures words { space.new ≡ words_after space.old change }
     ensures states { states.new ≡ states_after states.old t change }
+    ensures pins { pins.new ≡ pins_after pins.old t change }
 {
     match change {
         Change::Nothing => {}
@@ -66,5 +76,8 @@ pub fn apply(
         Change::InRaw { r, word } => cells.set_raw(t, r, word),
         Change::InSpace { index, word } => space.write(index, word),
         Change::Inhibits { count } => states.set_inhibits(t, count),
+        Change::Owes { last } => states.set_owed(t, Some(last)),
+        Change::PushPin { word } => pins.push(t, word),
+        Change::PopPin => pins.pop(t),
     }
 }

@@ -2,20 +2,23 @@
 
 ghost use Rattle.std.specs.Prelude.{◌≡◌, ◌+◌, ◌<◌, ◌^◌, length, slice_get, slice_index_or, replicate, IfOk};
 ghost use Rattle.std.specs.Option.{ForSome};
-ghost use Rattle.lisp_heap.specs.State.{advanced, fresh_state, state_page, state_with_page, state_with_region, with_ended, with_inhibits, with_placed, with_region_open};
+ghost use Rattle.lisp_heap.specs.State.{advanced, fresh_state, state_due, state_page, state_with_page, state_with_region, with_ended, with_inhibits, with_owed, with_placed, with_region_open};
 
 use heap_terms::{Memory, PAGE_WORDS, PageType};
 use std::alloc::Global;
 use std::marker::Model;
 
-/// How many of its commands a thread has done, how often it inhibits collections, whether it has
-/// ended, its open page of each type, and the first page of its open run.
+/// How many of its commands a thread has done, how often it inhibits collections, up to which
+/// generation it owes one, whether it has ended, its open page of each type, and the first page of
+/// its open run.
 #[derive(Clone, Copy)]
 pub struct ThreadState {
     /// How many of its commands it has done.
     pub done: usize,
     /// How many sections it is in that inhibit collections.
     pub inhibits: u32,
+    /// The generation up to which it owes a collection.
+    pub owed: Option<u8>,
     /// Whether it has ended.
     pub ended: bool,
     /// Its open page of conses.
@@ -51,6 +54,7 @@ impl ThreadState {
         ThreadState {
             done: 0,
             inhibits: 0,
+            owed: None,
             ended: false,
             cons_page: None,
             boxed_page: None,
@@ -68,6 +72,15 @@ impl ThreadState {
             PageType::Boxed => self.boxed_page,
             PageType::Unboxed => self.unboxed_page,
         }
+    }
+
+    /// The generation up to which the thread must collect now: what it owes, while it does not
+    /// inhibit.
+    #[inline(always)]
+    pub fn due(&self) -> Option<u8>
+        ensures { result ≡ state_due self.now }
+    {
+        if self.inhibits == 0 { self.owed } else { None }
     }
 
     /// The state with another open page of a type.
@@ -179,6 +192,15 @@ impl States {
         ensures { self.new ≡ with_inhibits self.old t count }
     {
         self.states[t].inhibits = count;
+    }
+
+    /// One thread owes a collection up to this generation from now on, or none.
+    #[inline(always)]
+    pub fn set_owed(&mut self, t: usize, owed: Option<u8>)
+        requires { t < length self.old }
+        ensures { self.new ≡ with_owed self.old t owed }
+    {
+        self.states[t].owed = owed;
     }
 
     /// One thread has ended.

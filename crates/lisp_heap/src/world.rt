@@ -21,7 +21,9 @@ ghost use Rattle.lisp_heap.specs.View.{heap_of, next_of};
 
 use crate::cells::CellWords;
 use crate::parcels::Making;
+use crate::pins::Pins;
 use crate::plan::{Plan, apply};
+use crate::scratch::Scratch;
 use crate::states::{States, ThreadState};
 use crate::wishes::wish;
 use heap_terms::{Command, Entry, Event, Kind, Memory, Next, PAGE_WORDS, PageType, Program};
@@ -43,8 +45,11 @@ pub struct World {
     pub(crate) labels: Prefilled<u32>,
     pub(crate) cells: CellWords,
     pub(crate) states: States,
+    pub(crate) pins: Pins,
     pub(crate) commits: u32,
     pub(crate) history: Vec<Event>,
+    /// What collections work with. A script without collections never needs it.
+    pub(crate) scratch: Option<Scratch>,
 }
 
 impl Model for World {
@@ -122,6 +127,9 @@ impl World {
         let state = self.states.at(t as usize);
         if state.ended {
             return Next::Done;
+        }
+        if let Some(last) = state.due() {
+            return Next::Collect(last);
         }
         match self.command(t as usize) {
             None => Next::End,
@@ -315,6 +323,18 @@ impl World {
                 let plan = self.allowed(t as usize);
                 self.carry_out(t, command, plan)
             }
+            Command::Pin { c } => {
+                let plan = self.pinned(t as usize, c);
+                self.carry_out(t, command, plan)
+            }
+            Command::Unpin => {
+                let plan = self.unpinned(t as usize);
+                self.carry_out(t, command, plan)
+            }
+            Command::Collect { g } => {
+                let plan = self.asked(t as usize, g);
+                self.carry_out(t, command, plan)
+            }
             // These allocate.
             Command::NewCons { .. }
             | Command::NewVector { .. }
@@ -324,9 +344,7 @@ impl World {
             | Command::NewWeak { .. }
             | Command::NewTable { .. } => unreachable!(),
             // These are not built yet.
-            Command::Pin { .. }
-            | Command::Unpin
-            | Command::WeakVal { .. }
+            Command::WeakVal { .. }
             | Command::TablePut { .. }
             | Command::TableGet { .. }
             | Command::TableRem { .. }
@@ -334,7 +352,6 @@ impl World {
             | Command::Finalize { .. }
             | Command::Cancel { .. }
             | Command::RunFinalizers
-            | Command::Collect { .. }
             | Command::ShowPage { .. }
             | Command::Stat { .. } => unreachable!(),
         }
@@ -361,6 +378,7 @@ impl World {
             &mut self.cells,
             &mut self.space,
             &mut self.states,
+            &mut self.pins,
             t as usize,
             change,
         );

@@ -8,7 +8,7 @@ use Rattle.lisp_heap.specs.Standing.{Holds}
 use Rattle.lisp_heap.specs.WorldSound.{IsSound}
 use Rattle.lisp_heap.specs.View.{View, heap_of, next_of}
 use Rattle.lisp_heap.specs.declared.world.World.TheInside.{Inside}
-use Rattle.lisp_heap.proofs.Soundness.{heap, states_length}
+use Rattle.lisp_heap.proofs.Soundness.{heap, states_length, pins_length}
 use Rattle.lisp_heap.proofs.Stepping.{did_next, did_holds, did_agrees, can_change, states_count, change_room, sound_after, happens_after, agrees_after}
 use Rattle.lisp_heap.proofs.WordReading.{thread_in}
 use Rattle.lisp_heap.proofs.world.World.carry_out.Goals as goal
@@ -24,6 +24,7 @@ apply-requires c =
     record {
       cells = can_change s c.self.invariant c.args.t c.args.command c.args.plan.answer c.args.plan.change lt at simple is;
       thread = omega (arith, lt, states_length s c.self.invariant);
+      pinned = omega (arith, lt, pins_length s c.self.invariant);
     }
 
 pub advance-requires-clause-thread : goal.advance-requires-clause-thread
@@ -56,8 +57,10 @@ made c = record {
   labels = c.self.inside.labels;
   cells = c.apply.new.cells;
   states = c.advance.new.self;
+  pins = c.apply.new.pins;
   commits = c.self.inside.commits;
   history = c.push.new.self;
+  scratch = c.self.inside.scratch;
 }
 
 sound_made : (c : goal.After-advance) → IsSound (made c)
@@ -75,12 +78,13 @@ sound_made c =
       labels = s.labels;
       cells = c.apply.new.cells;
       states = c.advance.new.self;
+      pins = c.apply.new.pins;
       commits = s.commits;
     }) =
-    rw (c.apply.ensures.cells, c.apply.ensures.words, c.advance.ensures, c.apply.ensures.states)
+    rw (c.apply.ensures.cells, c.apply.ensures.words, c.advance.ensures, c.apply.ensures.states, c.apply.ensures.pins)
     (did_holds s c.self.invariant c.args.t c.args.command c.args.plan.answer c.args.plan.change lt at simple is) in
     sound_after s (made c) e c.self.invariant refl c.in_ok-push.ensures.items
-    (did_next s c.self.invariant c.args.t c.args.command c.args.plan.answer c.args.plan.change lt at simple is) held
+    (did_next s c.self.invariant c.args.t c.args.command c.args.plan.answer c.args.plan.change lt at simple is) c.self.invariant.scratch held
 
 pub invariant_of-self-2 : goal.invariant_of-self-2
 invariant_of-self-2 c = sound_made c

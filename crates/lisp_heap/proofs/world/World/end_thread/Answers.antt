@@ -11,7 +11,7 @@ use Rattle.lisp_heap.specs.Standing.{Holds}
 use Rattle.lisp_heap.specs.View.{View, next_of}
 use Rattle.lisp_heap.specs.declared.world.World.TheInside.{Inside}
 use Rattle.lisp_heap.proofs.Ending.{after_end_holds, end_next, end_others, end_empty}
-use Rattle.lisp_heap.proofs.Soundness.{heap, well_formed, states_length, cells_room}
+use Rattle.lisp_heap.proofs.Soundness.{heap, well_formed, states_length, pins_length, cells_room}
 use Rattle.lisp_heap.proofs.Stepping.{sound_after, happens_after, heap_after, agrees_after}
 use Rattle.lisp_heap.proofs.WordReading.{thread_in}
 use Rattle.lisp_heap.proofs.world.World.end_thread.Goals as goal
@@ -24,6 +24,10 @@ ends_here s w t e h = subst (λ (v : View). next_of v t ≡ nexts.End) (sym e) h
 
 pub clear-requires : goal.clear-requires
 clear-requires c = cells_room c.self.inside c.args.t c.self.invariant (thread_in c.self.inside c.args.self.now c.self.view_is c.args.t c.requires.thread)
+
+pub clear-requires-2 : goal.clear-requires-2
+clear-requires-2 c =
+    omega (arith, thread_in c.self.inside c.args.self.now c.self.view_is c.args.t c.requires.thread, pins_length c.self.inside c.self.invariant)
 
 pub end-requires : goal.end-requires
 end-requires c =
@@ -39,8 +43,10 @@ made c = record {
   labels = c.self.inside.labels;
   cells = c.clear.new.self;
   states = c.end.new.self;
+  pins = c.clear-2.new.self;
   commits = c.self.inside.commits;
   history = c.push.new.self;
+  scratch = c.self.inside.scratch;
 }
 
 sound_made : (c : goal.After-end) → IsSound (made c)
@@ -53,12 +59,13 @@ sound_made c =
       labels = s.labels;
       cells = c.clear.new.self;
       states = c.end.new.self;
+      pins = c.clear-2.new.self;
       commits = s.commits;
     }) =
-    rw (c.clear.ensures, c.end.ensures)
+    rw (c.clear.ensures, c.clear-2.ensures, c.end.ensures)
     (after_end_holds s.program (heap s) (parts_of s) c.args.t (thread_there s c.self.invariant c.args.t lt) c.self.invariant.holds) in
     sound_after s (made c) (Ended c.args.t) c.self.invariant refl c.in_ok-push.ensures.items
-    (end_next s.program (heap s) c.args.t (ends_here s c.args.self.now c.args.t c.self.view_is c.requires.ends)) held
+    (end_next s.program (heap s) c.args.t (ends_here s c.args.self.now c.args.t c.self.view_is c.requires.ends)) c.self.invariant.scratch held
 
 pub invariant_of-self-2 : goal.invariant_of-self-2
 invariant_of-self-2 c = sound_made c

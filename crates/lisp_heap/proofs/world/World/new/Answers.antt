@@ -1,5 +1,5 @@
 -- The World at the start.
-use Rattle.std.proofs.Common.{ℕ, ap, ◌∙◌, refl, replicate}
+use Rattle.std.proofs.Common.{ℕ, List, [], ap, ◌∙◌, refl, replicate, None}
 use Rattle.lisp_heap.specs.State.{fresh_state}
 use Rattle.lisp_heap.specs.declared.world.World.TheInside.{Inside}
 use Rattle.lisp_heap.specs.CellsView.{zero_cells}
@@ -16,10 +16,13 @@ invariant_of-world c =
       labels = c.in_ok-labels.labels;
       cells = c.in_ok-cells.cells;
       states = c.in_ok-states.states;
+      pins = c.in_ok-pins.pins;
       commits = 0;
       history = c.in_ok-history.history;
+      scratch = None;
     } in
     starts_sound s c.requires c.in_ok-history.ensures.items
     (fresh_is s c.in_ok-space.ensures c.in_ok-pages.ensures c.in_ok-labels.ensures
     (c.in_ok-cells.ensures ∙ ap zero_cells c.len-threads.ensures)
-    (c.in_ok-states.ensures ∙ ap (λ (n : ℕ). replicate n fresh_state) c.len-threads.ensures) refl)
+    (c.in_ok-states.ensures ∙ ap (λ (n : ℕ). replicate n fresh_state) c.len-threads.ensures)
+    (c.in_ok-pins.ensures ∙ ap (λ (n : ℕ). replicate {A = List ℕ} n []) c.len-threads.ensures) refl) refl

@@ -46,8 +46,10 @@ made c = record {
   labels = c.self.inside.labels;
   cells = c.self.inside.cells;
   states = c.open_region.new.self;
+  pins = c.self.inside.pins;
   commits = c.self.inside.commits;
   history = c.push.new.self;
+  scratch = c.self.inside.scratch;
 }
 
 abbrev event : goal.After-open_region → Event
@@ -68,10 +70,11 @@ sound_made c =
       labels = s.labels;
       cells = s.cells;
       states = c.open_region.new.self;
+      pins = s.pins;
       commits = s.commits;
     }) =
     rw (c.take_run.ensures.opened refl, c.open_region.ensures) (opened_holds s c.self.invariant c.args.t c.args.ty c.args.first c.args.pages f) in
-    sound_after s (made c) (event c) c.self.invariant refl (pushed c) (opened_next s c.self.invariant c.args.t c.args.ty c.args.first c.args.pages f) held
+    sound_after s (made c) (event c) c.self.invariant refl (pushed c) (opened_next s c.self.invariant c.args.t c.args.ty c.args.first c.args.pages f) c.self.invariant.scratch held
 
 pub invariant_of-self-2 : goal.invariant_of-self-2
 invariant_of-self-2 c = sound_made c

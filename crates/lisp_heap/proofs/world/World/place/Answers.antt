@@ -80,8 +80,10 @@ made c = record {
   labels = c.set.new.self;
   cells = c.write.new.self;
   states = c.place.new.self;
+  pins = c.self.inside.pins;
   commits = c.self.inside.commits + 1;
   history = c.push.new.self;
+  scratch = c.self.inside.scratch;
 }
 
 abbrev event : goal.After-place → Event
@@ -103,6 +105,7 @@ sound_made c =
       labels = c.set.new.self;
       cells = c.write.new.self;
       states = c.place.new.self;
+      pins = s.pins;
       commits = s.commits + 1;
     })
     (c.write_all.ensures.words ∙ ap (λ (ws : List ℕ). written s.space c.args.index ws) words)
@@ -111,8 +114,9 @@ sound_made c =
     (c.write.ensures ∙ ap (λ (v : ℕ). with_cell_word s.cells c.args.t c.args.d v) c.tag.ensures)
     (c.place.ensures ∙ ap (λ (n : ℕ). with_placed s.states c.args.t n) size_is)
     refl
+    refl
     (placed_holds c.self.inside c.self.invariant c.args.t c.args.command c.args.d c.args.index c.args.kind c.args.n f) in
-    sound_after s (made c) (event c) c.self.invariant refl (pushed c) (placed_next c.self.inside c.self.invariant c.args.t c.args.command c.args.d c.args.index c.args.kind c.args.n f) held
+    sound_after s (made c) (event c) c.self.invariant refl (pushed c) (placed_next c.self.inside c.self.invariant c.args.t c.args.command c.args.d c.args.index c.args.kind c.args.n f) c.self.invariant.scratch held
 
 pub invariant_of-self-2 : goal.invariant_of-self-2
 invariant_of-self-2 c = sound_made c

@@ -45,8 +45,10 @@ made c = record {
   labels = c.self.inside.labels;
   cells = c.self.inside.cells;
   states = c.advance.new.self;
+  pins = c.self.inside.pins;
   commits = c.self.inside.commits;
   history = c.push.new.self;
+  scratch = c.self.inside.scratch;
 }
 
 sound_made : (c : goal.After-advance) → IsSound (made c)
@@ -64,11 +66,12 @@ sound_made c =
       labels = s.labels;
       cells = s.cells;
       states = c.advance.new.self;
+      pins = s.pins;
       commits = s.commits;
     }) =
     rw c.advance.ensures (refused_holds s c.self.invariant c.args.t c.current-command.result lt at opens) in
     sound_after s (made c) e c.self.invariant refl c.in_ok-push.ensures.items
-    (refused_next s c.self.invariant c.args.t c.current-command.result lt at opens none) held
+    (refused_next s c.self.invariant c.args.t c.current-command.result lt at opens none) c.self.invariant.scratch held
 
 pub invariant_of-self-2 : goal.invariant_of-self-2
 invariant_of-self-2 c = sound_made c
