@@ -31,3 +31,4 @@ pub mod Starting
 pub mod Ending
 pub mod Leasing
 pub mod PageReading
+pub mod PageViewing

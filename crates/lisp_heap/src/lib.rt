@@ -12,6 +12,7 @@ mod committing;
 mod field_commands;
 mod inhibit_commands;
 mod new_world;
+mod page_commands;
 mod parcels;
 mod pin_commands;
 mod pins;

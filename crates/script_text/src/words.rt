@@ -68,6 +68,7 @@ pub(crate) fn meaning_of(word: &[u8]) -> Option<Keyword>
         b"addr" => Some(Keyword::Command(Name::Addr)),
         b"raw" => Some(Keyword::Command(Name::Raw)),
         b"add" => Some(Keyword::Command(Name::Add)),
+        b"page" => Some(Keyword::Command(Name::Page)),
         b"pin" => Some(Keyword::Command(Name::Pin)),
         b"unpin" => Some(Keyword::Command(Name::Unpin)),
         b"gc" => Some(Keyword::Command(Name::Gc)),
