@@ -25,7 +25,7 @@ view_outcome a t page = refl
 pub viewed_none : (a : NamedHeap) (t page : ℕ) → length a.pages ≤ page → IsPlan a t (commands.ShowPage page) (answers.Refused OutOfRange) changes.Nothing
 viewed_none a t page past =
     planned a t (commands.ShowPage page) (refused OutOfRange a) (answers.Refused OutOfRange) changes.Nothing
-    (view_outcome a t page ∙ ap (λ (b : Bool). if b then answering (answers.Page (page_view a page)) a else refused OutOfRange a) (le-ltb (length a.pages) page past)) refl refl
+    (view_outcome a t page ∙ ap (λ (b : Bool). if b then answering (answers.Page (page_view a page)) a else refused OutOfRange a) (le-ltb page (length a.pages) past)) refl refl
 
 pub viewed_is : (a : NamedHeap) (t page : ℕ) → page < length a.pages → IsPlan a t (commands.ShowPage page) (answers.Page (page_view a page)) changes.Nothing
 viewed_is a t page inside =
