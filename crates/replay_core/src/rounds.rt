@@ -71,6 +71,7 @@ pub fn schedule_turns(machine: &mut Machine, kept: &mut Option<Lines>) -> Result
 }
 
 /// One turn of each thread: 0, 1, and so on.
+#[inline(always)]
 fn each_in_turn(machine: &mut Machine, kept: &mut Option<Lines>) -> Result<(), Memory>
     ensures { OnOk result
         (TurnedKept (range_with_len 0 (length (program_of machine.old).threads)) machine.old machine.new kept.old kept.new) }
