@@ -99,3 +99,75 @@ fn bad_journals(rt: HostRuntime) {
         );
     }
 }
+
+#[test]
+fn each_field_at_the_edge_of_its_range(rt: HostRuntime) {
+    for (text, number) in [
+        ("0 collect 6\n", 1),
+        ("0 collect 0\npass 6 6\n", 2),
+        ("0 collect 0\npass 0 7\n", 2),
+        ("0 collect 0\npass 0 1\nmove #20000 @0 @2\n", 3),
+        ("0 collect 0\npass 0 1\nmove #0 @524288 @2\n", 3),
+        ("0 collect 0\npass 0 1\nmove #0 @0 @524288\n", 3),
+        ("0 collect 0\npass 0 1\nstay #20000 @0\n", 3),
+        ("0 collect 0\npass 0 1\nstay #0 @524288\n", 3),
+        ("0 collect 0\npass 0 1\npin #20000 @0\n", 3),
+        ("0 collect 0\npass 0 1\npin #0 @524288\n", 3),
+        ("0 collect 0\npass 0 1\ncull #20000 0 0\n", 3),
+        ("0 collect 0\npass 0 1\ncull #0 #20000 0\n", 3),
+        ("0 collect 0\npass 0 1\ncull #0 0 unbound\n", 3),
+        ("0 collect 0\npass 0 1\ncull #0 0 -4611686018427387905\n", 3),
+        ("0 collect 0\npass 0 1\nbreak #20000\n", 3),
+        ("0 collect 0\npass 0 1\nqueue 4294967296\n", 3),
+        ("0 collect 0\npass 0 1\nfree 1024\n", 3),
+        ("0 collect 0\npass 0 1\nswept 4294967296 0\n", 3),
+        ("0 collect 0\npass 0 1\nswept 0\n", 3),
+        ("0 collect 0\npass 0 1\nswept 0 0 0\n", 3),
+        ("0 open cons 0 1025\n", 1),
+        ("0 open list 0 1\n", 1),
+        ("0 cons b0 b1 b1 -> #20000 @0\n", 1),
+        ("0 cons b0 b1 b1 -> #0 @524288\n", 1),
+        ("0 cons b0 b1 b1 -> ok\n", 1),
+        ("0 get s0 b0 65536 -> 0\n", 1),
+        ("0 vector b0 65536 -> #0 @0\n", 1),
+        ("0 gc 6 -> ok\n", 1),
+        ("0 stat 7 -> allocated 0 cum 0 num 0\n", 1),
+        ("0 finalize b0 4294967296 -> ok\n", 1),
+        ("0 cancel b0 -> 18446744073709551616\n", 1),
+        ("0 weakval s0 s1 -> live unbound\n", 1),
+        ("0 page 4294967296 -> free\n", 1),
+        ("0 page 0 -> cons g0 fill 4294967296\n", 1),
+        ("0 page 0 -> cons g0 large 2 #20000@0\n", 1),
+        ("0 page 0 -> cons g0 fill 2 #0@524288\n", 1),
+        ("0 add r0 9223372036854775808 -> 0x0000000000000000\n", 1),
+        ("0 jump\n", 1),
+        ("x end\n", 1),
+        ("0 end\n0 collect\n", 2),
+    ] {
+        assert_eq!(rt;
+            fault_of(rt.alloc(), text.as_bytes()),
+            Some(JournalFault::Line(number, Why::Form)),
+            "{text}"
+        );
+    }
+}
+
+/// A front of a journal is no journal: the line that it lacks is told, and a line that was cut is
+/// none.
+#[test]
+fn cut_after_every_byte(rt: HostRuntime) {
+    let text =
+        b"0 open cons 0 1\n0 cons b0 b1 b1 -> #0 @0\n0 collect 0\npass 0 0\nmove #0 @0 @512\nfree 0\nswept 0 1\n0 end\ndone 4\n";
+    let mut line = 1;
+    for (i, byte) in text.iter().enumerate() {
+        let (front, _) = text.split_at(i);
+        assert_eq!(rt;
+            fault_of(rt.alloc(), front),
+            Some(JournalFault::Line(line, Why::Missing))
+        );
+        if *byte == b'\n' && line < 1000 {
+            line += 1;
+        }
+    }
+    assert_eq!(rt; fault_of(rt.alloc(), text), None);
+}
