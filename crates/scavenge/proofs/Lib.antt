@@ -1,0 +1,5 @@
+pub mod Shapes
+pub mod Frames
+pub mod OneField
+pub mod FirstWord
+pub mod QueueLaws

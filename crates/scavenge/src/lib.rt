@@ -2,6 +2,8 @@
 //! unscanned.
 #![tactic(auto)]
 
+mod fields;
+mod objects;
 mod queue;
 
-pub use queue::Scanned;
+pub use queue::{Scanned, scavenge_all};
