@@ -65,7 +65,7 @@ either_word : (a : NamedHeap) (s : CopyState) (v : Value) (word : ℕ) → IsLiv
 either_word a s v word living (inl before) e = value_word a.objects v living (ap (λ (w : ℕ). w % 4) (sym before) ∙ e)
 either_word a s v word living (inr now) e = value_word (objects_now a s.moves) v (living_now a s v living) (ap (λ (w : ℕ). w % 4) (sym now.is) ∙ e)
 
-header_one : (kind : Kind) (n : ℕ) → kind ≢ kinds.Cons → header_of kind n % 4 ≡ 1
+pub header_one : (kind : Kind) (n : ℕ) → kind ≢ kinds.Cons → header_of kind n % 4 ≡ 1
 header_one kinds.Cons n headed = absurd (headed refl)
 header_one kinds.Vector n headed = omega arith
 header_one kinds.Instance n headed = omega arith
@@ -74,7 +74,7 @@ header_one kinds.Words n headed = omega arith
 header_one kinds.Weak n headed = omega arith
 header_one kinds.Table n headed = omega arith
 
-is_cons : (kind : Kind) → (kind ≡ kinds.Cons) ⊎ (kind ≢ kinds.Cons)
+pub is_cons : (kind : Kind) → (kind ≡ kinds.Cons) ⊎ (kind ≢ kinds.Cons)
 is_cons kinds.Cons = inl refl
 is_cons kinds.Vector = inr (λ e. cc)
 is_cons kinds.Instance = inr (λ e. cc)

@@ -4,6 +4,8 @@
 
 mod fields;
 mod objects;
+mod older;
 mod queue;
 
+pub use older::scavenge_older;
 pub use queue::{Scanned, scavenge_all};
