@@ -6,3 +6,4 @@ pub mod QueueLaws
 pub mod Edges
 pub mod OlderPieces
 pub mod OlderPages
+pub mod EmptyHeap

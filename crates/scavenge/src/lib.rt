@@ -6,6 +6,8 @@ mod fields;
 mod objects;
 mod older;
 mod queue;
+#[cfg(test)]
+mod tests;
 
 pub use older::scavenge_older;
 pub use queue::{Scanned, scavenge_all};
