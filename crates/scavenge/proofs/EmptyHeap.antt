@@ -1,11 +1,10 @@
 -- An empty heap of one page, with which a pass can begin.
-use Rattle.std.proofs.Common.{◌≡◌, ℕ, zero, suc, ◌*◌, ◌<◌, ◌≤◌, List, [], ◌∷◌, length, replicate, Option, Some, None, refl, arith}
+use Rattle.std.proofs.Common.{◌≡◌, ℕ, zero, suc, ◌<◌, ◌≤◌, List, [], ◌∷◌, replicate, refl, arith}
 use Rattle.std.proofs.lemmas.List.{length-replicate}
 use Rattle.std.proofs.lemmas.List.Elements.{All-nil}
 use Rattle.heap_terms.specs.declared.pages.Entry.{Entry}
 use Rattle.heap_terms.specs.declared.pages.Entry.TheVariants.{Free}
-use Rattle.heap_terms.specs.Heap.{NamedHeap, object_at, entry_at, fill_of}
-use Rattle.heap_terms.specs.OnPages.{IsEntry, IsInRun}
+use Rattle.heap_terms.specs.Heap.{NamedHeap, entry_at}
 use Rattle.heap_terms.specs.Sound.{IsSound, IsFinalizer}
 use Rattle.heap_terms.specs.Stands.{WordsStand}
 use Rattle.copy_space.specs.declared.marks.Mark.{Mark}

@@ -94,9 +94,6 @@ fields_within kinds.Weak n headed = omega arith
 fields_within kinds.Table n headed = omega arith
 
 module _ (a : NamedHeap) (s : CopyState) (h : Midway a s) (name : ℕ) (o : Object) (there : object_at a.objects name ≡ Some o) where
-  shape_of : Object
-  shape_of = o
-
   first_at : slice_index s.words (new_of s.moves o.place + 0) ≡ slice_index s.words (new_of s.moves o.place)
   first_at = (let same : new_of s.moves o.place + 0 ≡ new_of s.moves o.place = omega arith in ap (λ (i : ℕ). slice_index s.words i) same)
 

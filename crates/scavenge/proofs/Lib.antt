@@ -7,3 +7,4 @@ pub mod Edges
 pub mod OlderPieces
 pub mod OlderPages
 pub mod EmptyHeap
+pub mod Carried

@@ -12,6 +12,7 @@ use Rattle.heap_terms.specs.Heap.{NamedHeap, object_at}
 use Rattle.heap_terms.specs.Objects.{Object}
 use Rattle.pass_laws.proofs.Lookups.{found_at}
 use Rattle.copy_space.specs.declared.notes.Move.{Move}
+use Rattle.copy_space.specs.Frames.{Follows}
 use Rattle.copy_space.specs.Marks.{mark_at, is_set}
 use Rattle.copy_space.specs.Midway.{Midway}
 use Rattle.copy_space.specs.Moved.{new_of, has_move, mark_for}
@@ -23,7 +24,7 @@ use Rattle.copy_space.proofs.Names.{same_name, new_of-none}
 use Rattle.copy_space.proofs.Referents.{mark_is, pinned_unmoved, settles-not}
 use Rattle.scavenge.specs.declared.queue.Scanned.{Scanned}
 use Rattle.scavenge.specs.Fields.{CanScanObject, IsObjectScanned}
-use Rattle.scavenge.specs.Scanning.{Scans, AreScanned, IsAllScanned, AllOfGenerationScanned}
+use Rattle.scavenge.specs.Scanning.{AreScanned, IsAllScanned, AllOfGenerationScanned}
 
 -- an object of the queue: it is settled, and this is where it is
 pub record IsQueued (a : NamedHeap) (s : CopyState) (name : ℕ) (o : Object) (index : ℕ) : Type 0 where
@@ -73,17 +74,17 @@ get-front [] more k m l e = absurd (omega (arith, l))
 get-front (x ∷ xs) more zero m l e = e
 get-front (x ∷ xs) more (suc k) m l e = get-front xs more k m (omega (arith, l)) e
 
-module _ (a : NamedHeap) (s t : CopyState) (done : Scanned) (h : Midway a s) (sc : Scans a s t) (d : AreScanned a s done) where
+module _ (a : NamedHeap) (s t : CopyState) (done : Scanned) (h : Midway a s) (f : Follows a s t) (d : AreScanned a s done) where
   pins_same : t.pins ≡ s.pins
-  pins_same = sc.follows.grows.pins
+  pins_same = f.grows.pins
 
   more_moves : length s.moves ≤ length t.moves
-  more_moves = (let long = ap length sc.follows.grows.moves in let both = length-append s.moves sc.follows.grows.more in omega arith)
+  more_moves = (let long = ap length f.grows.moves in let both = length-append s.moves f.grows.more in omega arith)
 
   at_front : (k : ℕ) (m : Move) → k < length s.moves → slice_get t.moves k ≡ Some m → slice_get s.moves k ≡ Some m
-  at_front k m l at = get-front s.moves sc.follows.grows.more k m l (ap (λ (ms : List Move). slice_get ms k) (sym sc.follows.grows.moves) ∙ at)
+  at_front k m l at = get-front s.moves f.grows.more k m l (ap (λ (ms : List Move). slice_get ms k) (sym f.grows.moves) ∙ at)
 
-  -- what was scanned stays scanned
+  -- what was scanned stays scanned, also by the steps of other layers
   pub scanned-on : AreScanned a t done
   scanned-on = record {
     pins_most = (let most = d.pins_most in let same = ap length pins_same in omega arith);
@@ -92,13 +93,13 @@ module _ (a : NamedHeap) (s t : CopyState) (done : Scanned) (h : Midway a s) (sc
         (let most = d.pins_most in
         let here_before : o.place ≡ slice_index s.pins k = here ∙ ap (λ (ps : List ℕ). slice_index ps k) pins_same in
         let queued = pinned a s h k name o (omega arith) there here_before in
-        scanned-stays a s t sc.follows name o there queued.settled (d.pins k name o l there here_before));
+        scanned-stays a s t f name o there queued.settled (d.pins k name o l there here_before));
     moves = λ k name o m l at there of_it old.
         (let most = d.moves_most in
         let before = at_front k m (omega arith) at in
         let queued = moved a s h k name o m before there old in
-        let of_it_before : o.generation ≡ s.pass.generation = of_it ∙ ap (λ p. p.generation) sc.follows.grows.pass in
-        scanned-stays a s t sc.follows name o there queued.settled (d.moves k name o m l before there of_it_before old));
+        let of_it_before : o.generation ≡ s.pass.generation = of_it ∙ ap (λ p. p.generation) f.grows.pass in
+        scanned-stays a s t f name o there queued.settled (d.moves k name o m l before there of_it_before old));
   }
 
   -- one pin more

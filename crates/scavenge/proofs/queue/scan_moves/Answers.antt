@@ -27,7 +27,7 @@ loop-moves-preserved g c =
     let one : IsObjectScanned g.a s t (get_or s.moves c.loop-moves.moves d).new = subst (λ (m : Move). IsObjectScanned g.a s t m.new) is c.scan_object.ensures.scanned in
     record {
       scans = scans-on g.a (state c.args.copier.now) s t c.loop-moves.invariant.scans c.scan_object.ensures.scans;
-      scanned = move-scanned g.a s t (record { pins = c.args.done.pins; moves = c.loop-moves.moves }) c.loop-moves.invariant.scans.midway c.scan_object.ensures.scans
+      scanned = move-scanned g.a s t (record { pins = c.args.done.pins; moves = c.loop-moves.moves }) c.loop-moves.invariant.scans.midway c.scan_object.ensures.scans.follows
           c.loop-moves.invariant.scanned (record { pins = c.args.done.pins; moves = c.loop-moves.moves + 1 }) d refl refl inside one;
       same = same-on c.args.copier.now c.loop-moves.copier c.scan_object.new.copier c.loop-moves.invariant.same c.scan_object.ensures.same;
     }

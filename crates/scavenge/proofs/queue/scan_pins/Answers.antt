@@ -26,7 +26,7 @@ loop-i-preserved g c =
     let one : IsObjectScanned g.a s t (slice_index s.pins c.loop-i.i) = subst (λ (i : ℕ). IsObjectScanned g.a s t i) is c.scan_object.ensures.scanned in
     record {
       scans = scans-on g.a (state c.args.copier.now) s t c.loop-i.invariant.scans c.scan_object.ensures.scans;
-      scanned = pin-scanned g.a s t (record { pins = c.loop-i.i; moves = c.args.done.moves }) c.loop-i.invariant.scans.midway c.scan_object.ensures.scans
+      scanned = pin-scanned g.a s t (record { pins = c.loop-i.i; moves = c.args.done.moves }) c.loop-i.invariant.scans.midway c.scan_object.ensures.scans.follows
           c.loop-i.invariant.scanned (record { pins = c.loop-i.i + 1; moves = c.args.done.moves }) refl refl (omega arith) one;
       same = same-on c.args.copier.now c.loop-i.copier c.scan_object.new.copier c.loop-i.invariant.same c.scan_object.ensures.same;
     }
