@@ -2,6 +2,12 @@
 //! unscanned.
 #![tactic(auto)]
 
+mod fields;
+mod objects;
+mod older;
 mod queue;
+#[cfg(test)]
+mod tests;
 
-pub use queue::Scanned;
+pub use older::scavenge_older;
+pub use queue::{Scanned, scavenge_all};
