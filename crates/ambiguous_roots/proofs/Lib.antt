@@ -7,3 +7,5 @@ pub mod HowMany
 pub mod Referring
 pub mod PageStep
 pub mod Finding
+pub mod OneWord
+pub mod Answered

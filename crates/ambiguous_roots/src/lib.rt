@@ -4,7 +4,10 @@
 #![tactic(auto)]
 
 mod hints;
+mod hitting;
+pub mod laws;
 mod pins;
 
 pub use hints::Hints;
+pub use hitting::hit;
 pub use pins::find_pins;
