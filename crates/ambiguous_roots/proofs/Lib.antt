@@ -9,3 +9,4 @@ pub mod PageStep
 pub mod Finding
 pub mod OneWord
 pub mod Answered
+pub mod Tested

@@ -7,6 +7,8 @@ mod hints;
 mod hitting;
 pub mod laws;
 mod pins;
+#[cfg(test)]
+mod tests;
 
 pub use hints::Hints;
 pub use hitting::hit;
