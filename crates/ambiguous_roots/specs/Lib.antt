@@ -1,0 +1,5 @@
+pub mod Hinted
+pub mod HitStarts
+pub mod Pinning
+pub mod Hits
+pub mod Laws
