@@ -32,3 +32,4 @@ pub mod Ending
 pub mod Leasing
 pub mod PageReading
 pub mod PageViewing
+pub mod DueNext

@@ -9,6 +9,7 @@ mod cell_commands;
 mod cells;
 mod collect_commands;
 mod committing;
+mod due;
 mod field_commands;
 mod inhibit_commands;
 mod new_world;

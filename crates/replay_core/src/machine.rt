@@ -15,9 +15,9 @@ ghost use Rattle.replay_core.specs.Stepping.{AllEnded, EventDone, IsDone, IsWait
 ghost use Rattle.replay_core.specs.declared.machine.Stepped.TheVariants as stepped;
 
 use crate::tables::{after_step, has_gone, release_from, task_for};
-use crate::turns::{event, is_due};
+use crate::turns::event;
 use heap_terms::{Memory, Phase, Program, Seq, StepAnswer, Task, WordLine, WordStep};
-use lisp_heap::{Parcel, World};
+use lisp_heap::{CollectFault, Parcel, World};
 use pseudo_atomic::{StopState, word_step};
 use std::alloc::Global;
 use std::marker::Model;
@@ -128,7 +128,7 @@ impl Machine {
         ensures err { OnErr result (self.new ≡ self.old) }
     {
         let phase = self.phases.at(t as usize);
-        match task_for(phase, is_due(&self.world, t)) {
+        match task_for(phase, self.world.is_due(t)) {
             Task::Walk(step) => {
                 let answer = self.walk(t, phase, step);
                 Ok(told(t, step, answer))
@@ -179,7 +179,7 @@ impl Machine {
         ensures ok { OnOk result (IsDone t self.old self.new) }
         ensures err { OnErr result (self.new ≡ self.old) }
     {
-        if is_due(&self.world, t) {
+        if self.world.is_due(t) {
             return self.rare_turn(t);
         }
         self.walks(t, Phase::Outside, WordStep::Enter);
@@ -206,7 +206,7 @@ impl Machine {
         ensures err { OnErr result (self.new ≡ self.old) }
     {
         let phase = self.phases.at(t as usize);
-        match task_for(phase, is_due(&self.world, t)) {
+        match task_for(phase, self.world.is_due(t)) {
             Task::Walk(step) => {
                 let _answer = self.walk(t, phase, step);
                 Ok(())
@@ -224,7 +224,7 @@ impl Machine {
         requires task { task_at phase (is_due (program_of self.old) self.old.world.history t) ≡ tasks.Walk step }
         ensures { StepDone t step self.old self.new result }
     {
-        let due = is_due(&self.world, t);
+        let due = self.world.is_due(t);
         let over = self.world.has_ended(t);
         let threads = self.world.threads();
         let answer = word_step(&mut self.stops, t, step);
@@ -264,7 +264,7 @@ impl Machine {
         Ok(())
     }
 
-    /// The collection of thread t, which is alone. No command that is built makes a thread owe one.
+    /// The collection of thread t, which is alone: nobody inhibits, and every parcel agrees.
     #[cold]
     #[inline(never)]
     fn collect(&mut self, t: u32) -> Result<(), Memory>
@@ -273,9 +273,15 @@ impl Machine {
         ensures ok { OnOk result (EventDone t self.old self.new) }
         ensures err { OnErr result (self.new ≡ self.old) }
     {
-        // That a history is lawful is what rules this turn out.
-        let _history = self.world.history();
-        unreachable!()
+        match self.world.collect(t, self.parcels.as_mut_slice()) {
+            Ok(()) => {
+                let threads = self.world.threads();
+                self.phases.set(t as usize, release_from(threads, t, 0));
+                Ok(())
+            }
+            Err(CollectFault::Memory) => Err(Memory),
+            Err(CollectFault::Busy(_)) => unreachable!(),
+        }
     }
 }
 

@@ -12,17 +12,6 @@ ghost use Rattle.replay_core.specs.Stepping.{HappensInside};
 use heap_terms::{Kind, Memory, Next, Owned};
 use lisp_heap::{Lent, Parcel, World};
 
-/// Whether a collection is due for thread t. No command that is built makes a thread owe one.
-#[inline(always)]
-pub(crate) fn is_due(world: &World, t: u32) -> bool
-    ensures { result ≡ collects (next_of world.now t) }
-{
-    // That a history is lawful is what rules a collection out.
-    let _history = world.history();
-    let _thread = t;
-    false
-}
-
 /// One event of the parcel's owner, which has not ended and for which no collection is due. For
 /// want of memory the World is as it was.
 #[inline(always)]
