@@ -100,6 +100,18 @@ TurnedKept-rounds k a b c x y z front more =
     (TurnedKept-append (rounds_of n k) (rounds_of n more.rounds) a b c x y z front
     (subst (λ (m : ℕ). TurnedKept (rounds_of m more.rounds) b c y z) same more.turned))
 
+-- one turn of a thread that is alone is a round
+pub MoreRounds-alone : (a b c : MachineView) (x y z : Option (List ReplayLine)) → length (program_of a).threads ≡ 1 → MoreRounds a b x y → TurnedKept (0 ∷ []) b c y z → MoreRounds a c x z
+MoreRounds-alone a b c x y z alone h one =
+    let same : length (program_of b).threads ≡ 1 = ap (λ (p : Program). length p.threads) h.turned.turned.program ∙ alone in
+    record {
+      rounds = h.rounds + 1;
+      turned = TurnedKept-round h.rounds a b c x y z h.turned (subst (λ (n : ℕ). TurnedKept (range_with_len 0 n) b c y z) (sym same) one);
+    }
+
+pub MoreRounds-none : (a : MachineView) (x : Option (List ReplayLine)) → MoreRounds a a x x
+MoreRounds-none a x = record { rounds = 0; turned = TurnedKept-none a x }
+
 -- turns of threads of which each is at its end
 still_turns : (p : Program) (ts : List ℕ) (c : Configuration) → ((t : ℕ) → phase_of c t ≡ Ended) → AreTurns p ts c [] c
 still_turns p [] c ended = (refl, refl)

@@ -82,10 +82,27 @@ fn each_in_turn(machine: &mut Machine, kept: &mut Option<Lines>) -> Result<(), M
     Ok(())
 }
 
+/// The same of a thread that is alone. Three turns stand one after the other, since most commands
+/// take three: so the phase between them is known.
+fn rounds_alone(machine: &mut Machine, kept: &mut Option<Lines>) -> Result<(), Memory>
+    requires { length (program_of machine.old).threads ≡ 1 }
+    ensures { OnOk result (MoreRounds machine.old machine.new kept.old kept.new) }
+{
+    for _ in 0..ROUNDS_BETWEEN_LOOKS {
+        turn(machine, kept, 0)?;
+        turn(machine, kept, 0)?;
+        turn(machine, kept, 0)?;
+    }
+    Ok(())
+}
+
 /// Some rounds more, also where all threads have ended, which changes nothing.
 fn more_rounds(machine: &mut Machine, kept: &mut Option<Lines>) -> Result<(), Memory>
     ensures { OnOk result (MoreRounds machine.old machine.new kept.old kept.new) }
 {
+    if machine.world().threads() == 1 {
+        return rounds_alone(machine, kept);
+    }
     for _ in 0..ROUNDS_BETWEEN_LOOKS {
         each_in_turn(machine, kept)?;
     }
