@@ -1,3 +1,5 @@
 pub mod Flagged
 pub mod Remaining
 pub mod Wiped
+pub mod Clean
+pub mod Exits

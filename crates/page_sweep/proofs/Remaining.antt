@@ -50,7 +50,7 @@ pub owned-now : (a : NamedHeap) (s : CopyState) (x : ℕ) (o : Object) (i : ℕ)
     new_of s.moves o.place ≤ i → i < new_of s.moves o.place + words_of_object o → IsOwned (remaining_now a s) i
 owned-now a s x o i e lives from below = (x, record o { place = new_of s.moves o.place }, remaining-there a s x o e lives, record { from = from; below = below })
 
-or_true : (b : Bool) → (b || true) ≡ true
+pub or_true : (b : Bool) → (b || true) ≡ true
 or_true true = refl
 or_true false = refl
 
@@ -169,6 +169,23 @@ module _ (a : NamedHeap) (s : CopyState) (h : IsPlacedSoFar a s) where
           let seven = two_generations (entry_at s.pages (o.place / 512)) scratch o.generation taken own in
           let bound = h.generation in
           absurd (omega (arith, seven, bound, of_it))
+
+  -- an object at whose place a pin stands
+  pub pinned-lies : (x : ℕ) (o : Object) (index : ℕ) → object_at a.objects x ≡ Some o → o.generation ≡ s.pass.generation → o.place ≡ index → list_any (nat_eq index) s.pins ≡ true → LyingAt a s index
+  pinned-lies x o index e of_it at pin =
+      let here : list_any (nat_eq o.place) s.pins ≡ true = ap (λ (i : ℕ). list_any (nat_eq i) s.pins) at ∙ pin in
+      let mark : mark_at s.marks o.place ≡ marks.Pinned = mark_is a s h x o e ∙ (rw here refl) in
+      let unmoved = here_unless_moved a s h x o e (ap is_moved mark) in
+      record {
+        name = x;
+        o = o;
+        there = e;
+        of_it = of_it;
+        place = at;
+        here = unmoved ∙ at;
+        is_settled = settles-not a s h x o e ∙ ap (λ (m : Mark). not (o.generation == s.pass.generation) || is_set m) mark ∙ or_true (not (o.generation == s.pass.generation));
+        placed = placed_here x o e of_it unmoved;
+      }
 
   pub lying-at : (index : ℕ) → index % 2 ≡ 0 → lies_there (mark_at s.marks index) ≡ true → LyingAt a s index
   lying-at index even lies =
