@@ -1,23 +1,21 @@
 -- Which pages are clean at the end of tracing without being wiped: those that the pass took, those of other generations, and
 -- those of a run of several pages that is held.
-use Rattle.std.proofs.Common.{◌≡◌, ◌≢◌, ℕ, ◌+◌, ◌-◌, ◌*◌, ◌/◌, ◌%◌, ◌<◌, ◌≤◌, List, length, get_or, Option, Some, None, Bool, true, false, ◌⊎◌, inl, inr, refl, sym, ◌∙◌, ap, subst, nat_eq, arith}
-use Rattle.std.proofs.lemmas.Bool.{cases_lt, cases_Bool, eq-eqb, eqb-true, ne_eqb, false≢true, or_cases, and_parts}
-use Rattle.std.proofs.lemmas.Option.{same_Some}
+use Rattle.std.proofs.Common.{◌≡◌, ◌≢◌, ℕ, ◌+◌, ◌-◌, ◌*◌, ◌/◌, ◌<◌, ◌≤◌, List, get_or, Option, Some, None, true, false, inl, inr, refl, sym, ◌∙◌, ap, subst, nat_eq, arith}
+use Rattle.std.proofs.lemmas.Bool.{cases_lt, cases_Bool, eq-eqb, eqb-true, ne_eqb, or_cases, and_parts}
 use Rattle.std.proofs.lemmas.List.Folds.{list_any_at}
 use Rattle.std.specs.List.{list_any}
-use Rattle.std.specs.Prelude.{not, ◌||◌, ◌&&◌, ◌==◌, slice_index}
+use Rattle.std.specs.Prelude.{not, ◌&&◌, ◌==◌, slice_index}
 use Rattle.heap_terms.specs.declared.kinds.PageType.{PageType}
 use Rattle.heap_terms.specs.declared.pages.Entry.{Entry}
 use Rattle.heap_terms.specs.declared.pages.Entry.TheVariants.{Free, Used}
 use Rattle.heap_terms.specs.Heap.{NamedHeap, object_at, entry_at, fill_of}
 use Rattle.heap_terms.specs.Layout.{filler_word}
 use Rattle.heap_terms.specs.Objects.{Object, words_of_object}
-use Rattle.heap_terms.specs.OnPages.{IsOwned, IsOnPage, IsPageOfRun, IsPlaced, IsEntry, IsInRun, SaysOfRun}
+use Rattle.heap_terms.specs.OnPages.{IsOwned, IsOnPage, IsPageOfRun, IsEntry, IsInRun, SaysOfRun}
 use Rattle.heap_terms.specs.Passes.{moved_to}
-use Rattle.heap_terms.specs.Placement.{scratch}
 use Rattle.heap_terms.specs.Regions.{is_small, pages_needed}
 use Rattle.pass_laws.proofs.Lookups.{found_at}
-use Rattle.pass_laws.proofs.Sizes.{words_least, large_least, large_needs}
+use Rattle.pass_laws.proofs.Sizes.{large_least, large_needs}
 use Rattle.pass_laws.proofs.Spreading.{is_in, moved_to-none}
 use Rattle.copy_space.specs.declared.notes.Move.{Move}
 use Rattle.copy_space.specs.Marks.{mark_at, is_set}
@@ -126,26 +124,32 @@ module _ (a : NamedHeap) (s : CopyState) (h : IsPlacedSoFar a s) (page : ℕ) (t
     | inl pin ↦ (let found = found_at (λ index. index / 512 == first) s.pins pin in
         let index = get_or s.pins found.0 0 in
         let on = eqb-true (get_or s.pins found.0 0 / 512) first (found.2 0) in
-        let start = h.pins found.0 0 found.1 in
-        (get_or s.pins found.0 0, on, pinned-lies a s h start.0 start.1.o (get_or s.pins found.0 0) start.1.there (of-generation a s.pass.generation start.0 start.1.o start.1.there start.1.of_it) start.1.here
-        (list_any_at (nat_eq (get_or s.pins found.0 0)) s.pins found.0 0 found.1 (eq-eqb (get_or s.pins found.0 0) (get_or s.pins found.0 0) refl))))
+        let start = h.pins found.0 0 found.1 in (
+          get_or s.pins found.0 0,
+          on,
+          pinned-lies a s h start.0 start.1.o (get_or s.pins found.0 0) start.1.there (of-generation a s.pass.generation start.0 start.1.o start.1.there start.1.of_it) start.1.here
+              (list_any_at (nat_eq (get_or s.pins found.0 0)) s.pins found.0 0 found.1 (eq-eqb (get_or s.pins found.0 0) (get_or s.pins found.0 0) refl)),
+        ))
     | inr stay ↦ (let d : Move = record { old = 0; new = 0 } in
         let found = found_at (λ (m : Move). (m.old == m.new) && (m.old / 512 == first)) s.moves stay in
         let m = get_or s.moves found.0 d in
         let both = and_parts ((get_or s.moves found.0 d).old == (get_or s.moves found.0 d).new) ((get_or s.moves found.0 d).old / 512 == first) (found.2 d) in
         let same = eqb-true (get_or s.moves found.0 d).old (get_or s.moves found.0 d).new both.0 in
         let on = eqb-true ((get_or s.moves found.0 d).old / 512) first both.1 in
-        let move = move-is a s h found.0 d found.1 in
-        ((get_or s.moves found.0 d).old, on, record {
-          name = move.name;
-          o = move.o;
-          there = move.there;
-          of_it = move.of_it;
-          place = move.old;
-          here = move.new ∙ sym same;
-          is_settled = move.is_settled;
-          placed = placed_here a s h move.name move.o move.there move.of_it (move.new ∙ sym same ∙ sym move.old);
-        }))
+        let move = move-is a s h found.0 d found.1 in (
+          (get_or s.moves found.0 d).old,
+          on,
+          record {
+            name = move.name;
+            o = move.o;
+            there = move.there;
+            of_it = move.of_it;
+            place = move.old;
+            here = move.new ∙ sym same;
+            is_settled = move.is_settled;
+            placed = placed_here a s h move.name move.o move.there move.of_it (move.new ∙ sym same ∙ sym move.old);
+          },
+        ))
   ]
 
   -- on a run of several pages that is held each used word belongs to the one object there

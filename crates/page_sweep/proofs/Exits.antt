@@ -1,14 +1,14 @@
 -- The ways in which a page is swept.
-use Rattle.std.proofs.Common.{◌≡◌, ◌≢◌, ℕ, ◌+◌, ◌*◌, ◌/◌, ◌<◌, ◌≤◌, List, length, get_or, set, Bool, true, false, refl, sym, ◌∙◌, ap, subst, arith}
+use Rattle.std.proofs.Common.{◌≡◌, ◌≢◌, ℕ, ◌+◌, ◌*◌, ◌/◌, ◌<◌, ◌≤◌, List, length, set, Bool, true, false, refl, sym, ◌∙◌, ap, subst, arith}
 use Rattle.std.proofs.lemmas.Bool.{eq-eqb, ne_eqb}
 use Rattle.std.proofs.lemmas.List.{set-get_or}
-use Rattle.std.specs.Prelude.{slice_index, ◌==◌, ◌&&◌, ◌||◌, not, if◌then◌else◌}
+use Rattle.std.specs.Prelude.{slice_index, ◌==◌}
 use Rattle.heap_terms.specs.declared.kinds.PageType.{PageType}
 use Rattle.heap_terms.specs.declared.pages.Entry.{Entry}
 use Rattle.heap_terms.specs.declared.pages.Entry.TheVariants.{Free, Used}
 use Rattle.heap_terms.specs.Heap.{entry_at, fill_of}
 use Rattle.heap_terms.specs.Layout.{filler_word}
-use Rattle.heap_terms.specs.OnPages.{IsOwned}
+use Rattle.heap_terms.specs.OnPages.{IsOwned, IsInRun}
 use Rattle.heap_terms.specs.PageRuns.{with_generation}
 use Rattle.copy_space.specs.declared.notes.Move.{Move}
 use Rattle.copy_space.specs.Midway.{IsPlacedSoFar}
@@ -61,6 +61,15 @@ module _ (at : Tracing) (words : List ℕ) (pages : List Entry) (t : Traced) (pa
 
   p : IsPlacedSoFar at.heap at.state
   p = can.tells.midway.places
+
+  -- a run begins inside the table
+  pub first-inside : (ty : PageType) (h fill first k : ℕ) → entry_at pages page ≡ Used ty h fill first k → first < length at.state.pages
+  first-inside ty h fill first k is =
+      let run : IsInRun at.state.pages page (Used ty h fill first k) = subst (λ (e : Entry). IsInRun at.state.pages page e) (sym can.entry ∙ is) ((its at.heap at.state p).placing.runs page) in
+      let low = run.0 in
+      let inside = can.inside in
+      let long = can.long in
+      omega arith
 
   -- words that are as they were at the end of tracing
   as_were : (fill : ℕ) → fill ≤ 512 → ((i : ℕ) → i < fill → ¬ IsOwned (remaining_now at.heap at.state) (512 * page + i) → slice_index at.state.words (512 * page + i) ≡ filler_word) →

@@ -3,3 +3,5 @@ pub mod Remaining
 pub mod Wiped
 pub mod Clean
 pub mod Exits
+pub mod Progress
+pub mod Holding

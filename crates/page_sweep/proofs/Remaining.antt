@@ -1,20 +1,16 @@
 -- What remains at the end of tracing: where it lies, and which marks and pages tell of it.
-use Rattle.std.proofs.Common.{◌≡◌, ◌≢◌, ℕ, ◌+◌, ◌*◌, ◌/◌, ◌%◌, ◌<◌, ◌≤◌, List, length, get_or, Option, Some, None, Bool, true, false, inl, inr, refl, sym, ◌∙◌, ap, subst, nat_eq, arith}
-use Rattle.std.proofs.lemmas.Bool.{cases_Bool, eq-eqb, eqb-true, ne_eqb, false≢true}
+use Rattle.std.proofs.Common.{◌≡◌, ℕ, ◌+◌, ◌*◌, ◌/◌, ◌%◌, ◌<◌, ◌≤◌, List, length, get_or, Option, Some, None, Bool, true, false, inl, inr, refl, sym, ◌∙◌, ap, subst, nat_eq, arith}
+use Rattle.std.proofs.lemmas.Bool.{cases_Bool, eq-eqb, eqb-true, false≢true}
 use Rattle.std.proofs.lemmas.List.{get_or_past}
 use Rattle.std.specs.List.{list_any}
-use Rattle.std.specs.Prelude.{not, ◌||◌, ◌==◌, if◌then◌else◌, slice_index}
-use Rattle.heap_terms.specs.declared.kinds.PageType.{PageType}
-use Rattle.heap_terms.specs.declared.kinds.Kind.TheVariants as kinds
+use Rattle.std.specs.Prelude.{not, ◌||◌, ◌==◌, if◌then◌else◌}
 use Rattle.heap_terms.specs.declared.pages.Entry.{Entry}
 use Rattle.heap_terms.specs.declared.pages.Entry.TheVariants.{Free, Used}
-use Rattle.heap_terms.specs.Heap.{NamedHeap, object_at, entry_at, fill_of}
-use Rattle.heap_terms.specs.Layout.{header_of, page_type_of}
-use Rattle.heap_terms.specs.Objects.{Object, kind_of, payload_of, words_of_object}
-use Rattle.heap_terms.specs.OnPages.{IsOwned, IsOnPage, IsPlaced}
+use Rattle.heap_terms.specs.Heap.{NamedHeap, object_at, entry_at}
+use Rattle.heap_terms.specs.Objects.{Object, words_of_object}
+use Rattle.heap_terms.specs.OnPages.{IsOwned, IsPlaced}
 use Rattle.heap_terms.specs.Passes.{moved_to}
 use Rattle.heap_terms.specs.Placement.{scratch}
-use Rattle.heap_terms.specs.Slots.{Raw}
 use Rattle.pass_laws.specs.Spread.{settled, moved_object}
 use Rattle.pass_laws.proofs.Lookups.{made_at, found_at}
 use Rattle.pass_laws.proofs.Sizes.{words_least}
@@ -22,15 +18,14 @@ use Rattle.copy_space.specs.declared.marks.Mark.{Mark}
 use Rattle.copy_space.specs.declared.marks.Mark.TheVariants as marks
 use Rattle.copy_space.specs.declared.notes.Move.{Move}
 use Rattle.copy_space.specs.Marks.{mark_at, is_set}
-use Rattle.copy_space.specs.Midway.{IsPlacedSoFar, Midway}
+use Rattle.copy_space.specs.Midway.{IsPlacedSoFar}
 use Rattle.copy_space.specs.Moved.{new_of, has_move, now_at, mark_for}
 use Rattle.copy_space.specs.Pages.{is_page_of}
-use Rattle.copy_space.specs.Settled.{is_settled, settles}
+use Rattle.copy_space.specs.Settled.{is_settled}
 use Rattle.copy_space.specs.State.{CopyState}
 use Rattle.copy_space.proofs.Listed.{move-is}
 use Rattle.copy_space.proofs.Places.{placed_now, placed_page, page_kept, said, now_unmoved}
-use Rattle.copy_space.proofs.Referents.{ms, its, mark_is, settles-not, of-generation, pinned_unmoved, is_moved, here_unless_moved}
-use Rattle.copy_space.proofs.Shapes.{header_leads, payload-most}
+use Rattle.copy_space.proofs.Referents.{ms, its, mark_is, settles-not, of-generation, is_moved, here_unless_moved}
 use Rattle.page_sweep.specs.Swept.{remaining_now}
 use Rattle.page_sweep.specs.Wiping.{lies_there}
 

@@ -1,5 +1,5 @@
 -- One start more has its flag.
-use Rattle.std.proofs.Common.{◌≡◌, ℕ, ◌/◌, ◌<◌, length, ◌∙◌, sym, subst, arith}
+use Rattle.std.proofs.Common.{◌/◌, ◌<◌, length, ◌∙◌, arith}
 use Rattle.std.proofs.lemmas.List.{length-set}
 use Rattle.page_sweep.proofs.Flagged.{pin-flagged}
 use Rattle.page_sweep.proofs.held.flag_pins.Goals as goal

@@ -1,10 +1,10 @@
 -- Wiping goes on by the object at the index, or by two fillers.
-use Rattle.std.proofs.Common.{◌≡◌, ℕ, ◌+◌, ◌*◌, ◌/◌, ◌<◌, ◌≤◌, List, length, set, true, false, sym, ◌∙◌, ap, subst, arith}
+use Rattle.std.proofs.Common.{◌≡◌, ℕ, ◌+◌, List, length, set, sym, ◌∙◌, ap, subst, arith}
 use Rattle.std.proofs.lemmas.List.{length-set}
 use Rattle.copy_space.specs.declared.marks.Mark.{Mark}
 use Rattle.copy_space.specs.Marks.{mark_at}
-use Rattle.page_sweep.specs.Wiping.{Tracing, lies_there, CanWipe}
-use Rattle.page_sweep.proofs.Wiped.{IsWipedUpTo, Room, room, begun, IsPassed, passed, wiped, in_space, ended}
+use Rattle.page_sweep.specs.Wiping.{Tracing, lies_there}
+use Rattle.page_sweep.proofs.Wiped.{IsWipedUpTo, room, begun, IsPassed, passed, wiped, in_space, ended}
 use Rattle.page_sweep.proofs.wiping.wipe.Given as given
 use Rattle.page_sweep.proofs.wiping.wipe.Goals as goal
 
