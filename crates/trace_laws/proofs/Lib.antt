@@ -1,0 +1,7 @@
+pub mod Counting
+pub mod PinNames
+pub mod Remaining
+pub mod Kept
+pub mod Moves
+pub mod Closing
+pub mod Ending

@@ -1,5 +1,5 @@
 -- When the notes of a pass, in indices and words, tell what a record tells in names.
-use Rattle.std.specs.Prelude.{◌≡◌, ◌≢◌, ℕ, List, [], map, All, Some}
+use Rattle.std.specs.Prelude.{◌≡◌, ◌≢◌, [], map, All, Some}
 use Rattle.heap_terms.specs.declared.events.PassRecord.{PassRecord}
 use Rattle.heap_terms.specs.declared.events.PinAt.{PinAt}
 use Rattle.heap_terms.specs.declared.events.Placing.{Placing}
