@@ -1,0 +1,6 @@
+pub mod Strong
+pub mod Orders
+pub mod PagesAfter
+pub mod WordsAfter
+pub mod RootsAfter
+pub mod Joined
