@@ -1,0 +1,9 @@
+pub mod Pointing
+pub mod Counting
+pub mod Fitting
+pub mod Along
+pub mod OnPages
+pub mod HowMany
+pub mod Referring
+pub mod PageStep
+pub mod Finding

@@ -1,0 +1,3 @@
+pub mod Hinted
+pub mod HitStarts
+pub mod Pinning
