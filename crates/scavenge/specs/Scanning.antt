@@ -1,5 +1,5 @@
 -- How far a pass has scanned, and what scanning does. That the moved objects are their own queue is Cheney's, and SBCL's.
-use Rattle.std.specs.Prelude.{◌≡◌, ◌≢◌, ℕ, ◌+◌, ◌<◌, ◌≤◌, length, slice_index, slice_get, Some, Bool, true}
+use Rattle.std.specs.Prelude.{◌≡◌, ◌≢◌, ℕ, ◌<◌, ◌≤◌, length, slice_index, slice_get, Some, Bool, true}
 use Rattle.heap_terms.specs.Heap.{NamedHeap, object_at}
 use Rattle.heap_terms.specs.Live.{IsClosed}
 use Rattle.heap_terms.specs.Objects.{Object}

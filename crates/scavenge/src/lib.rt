@@ -2,6 +2,10 @@
 //! unscanned.
 #![tactic(auto)]
 
+mod fields;
+mod objects;
+mod older;
 mod queue;
 
-pub use queue::Scanned;
+pub use older::scavenge_older;
+pub use queue::{Scanned, scavenge_all};

@@ -1,0 +1,14 @@
+use Rattle.copy_space.specs.State.{state}
+use Rattle.scavenge.specs.Fields.{IsSameCopier}
+use Rattle.scavenge.specs.Scanning.{Scans, AreScanned}
+use Rattle.scavenge.proofs.queue.scan_pins.Given as goal
+
+abbrev pub ghost-scan_object : goal.ghost-scan_object
+ghost-scan_object g a = g.a
+
+abbrev pub invariant-loop-i : goal.invariant-loop-i
+invariant-loop-i g l = record {
+  scans : Scans g.a (state l.fn.copier) (state l.copier);
+  scanned : AreScanned g.a (state l.copier) (record { pins = l.i; moves = l.done.moves });
+  same : IsSameCopier l.fn.copier l.copier;
+}

@@ -1,0 +1,100 @@
+//! The older roots: the fields of the objects that a pass does not collect.
+
+ghost use Rattle.std.specs.Prelude.{◌≡◌, ◌≢◌, ℕ, ◌+◌, ◌*◌, ◌%◌};
+ghost use Rattle.heap_terms.specs.Heap.{NamedHeap};
+ghost use Rattle.heap_terms.specs.Layout.{page_words, size_of as words_of};
+ghost use Rattle.heap_terms.specs.declared.kinds.Kind.{Kind};
+ghost use Rattle.lisp_words.specs.Tagged.{IsHeader};
+ghost use Rattle.copy_space.specs.Notes.{SameButMoves};
+ghost use Rattle.copy_space.specs.State.{state};
+ghost use Rattle.scavenge.specs.Fields.{IsSameCopier};
+ghost use Rattle.scavenge.specs.Older.{root_words as words_with_roots, IsSized, CanScanPiece, IsPieceScanned, CanScanPage, AreObjectsScanned};
+ghost use Rattle.copy_space.specs.Midway.{Midway};
+ghost use Rattle.scavenge.specs.Scanning.{Scans, OthersScanned};
+
+use crate::objects::scan_object;
+use copy_space::{Copier, SCRATCH_GENERATION};
+use heap_terms::{Entry, PAGE_WORDS, PageType};
+use lisp_words::{read_header, size_of};
+use object_walk::FILLER_WORD;
+
+/// How many words an object takes that begins with a word: a cons begins with a value.
+fn words_from(first: u64) -> u32
+    requires sized { IsSized first }
+    ensures headed { (kind : Kind) (n : ℕ) → IsHeader first kind n → result ≡ words_of kind n }
+    ensures cons { first % 4 ≢ 1 → result ≡ 2 }
+{
+    match read_header(first) {
+        Some((kind, n)) => size_of(kind, n),
+        None => 2,
+    }
+}
+
+/// Scans what begins at an index, an object or two fillers, and answers where the next piece begins.
+#[inline(always)]
+fn scan_piece(copier: &mut Copier, index: u32) -> u32
+    ghost a: { NamedHeap }
+    requires { CanScanPiece a (state copier.old) index }
+    ensures scans { Scans a (state copier.old) (state copier.new) }
+    ensures piece { IsPieceScanned a (state copier.new) index result }
+    ensures same { IsSameCopier copier.old copier.new }
+{
+    let first = copier.space().read(index);
+    if first == FILLER_WORD {
+        return index + 2;
+    }
+    scan_object(copier, index);
+    index + words_from(first)
+}
+
+/// Scans the objects that begin below so many words of a page, one after another.
+fn scan_page(copier: &mut Copier, page: u32, words: u32)
+    ghost a: { NamedHeap }
+    requires { CanScanPage a (state copier.old) page words }
+    ensures scans { Scans a (state copier.old) (state copier.new) }
+    ensures scanned { AreObjectsScanned a (state copier.new) (page_words * page) (page_words * page + words) }
+    ensures same { IsSameCopier copier.old copier.new }
+{
+    let mut index = PAGE_WORDS * page;
+    let end = index + words;
+    while index < end {
+        index = scan_piece(copier, index);
+    }
+}
+
+/// Below how many words of a page older roots begin, in a pass over a generation.
+fn root_words(entry: Entry, page: u32, collected: u8) -> u32
+    ensures { result ≡ words_with_roots entry page collected }
+{
+    match entry {
+        Entry::Used {
+            ty: PageType::Cons | PageType::Boxed,
+            generation,
+            fill,
+            run_first,
+            ..
+        } if generation != collected && generation != SCRATCH_GENERATION && run_first == page =>
+            fill,
+        Entry::Used { .. } | Entry::Free => 0,
+    }
+}
+
+/// Scans every object of another generation than the one that is collected: all of them are roots
+/// of the pass. It takes no memory.
+pub fn scavenge_older(copier: &mut Copier)
+    ghost a: { NamedHeap }
+    requires { Midway a (state copier.old) }
+    ensures scans { Scans a (state copier.old) (state copier.new) }
+    ensures others { OthersScanned a (state copier.new) }
+    ensures notes { SameButMoves copier.old.notes.now copier.new.notes.now }
+    ensures same_space { copier.new.space.ghost_name ≡ copier.old.space.ghost_name }
+    ensures same_pages { copier.new.pages.ghost_name ≡ copier.old.pages.ghost_name }
+    ensures same_marks { copier.new.marks.ghost_name ≡ copier.old.marks.ghost_name }
+    ensures same_notes { copier.new.notes.ghost_name ≡ copier.old.notes.ghost_name }
+{
+    let collected = copier.pass().generation;
+    for page in 0..copier.pages().len() {
+        let words = root_words(copier.pages().entry(page), page, collected);
+        scan_page(copier, page, words);
+    }
+}
