@@ -11,6 +11,7 @@ use Rattle.heap_terms.specs.Layout.{filler_word}
 use Rattle.heap_terms.specs.OnPages.{IsOwned, IsInRun}
 use Rattle.heap_terms.specs.PageRuns.{with_generation}
 use Rattle.copy_space.specs.declared.notes.Move.{Move}
+use Rattle.copy_space.specs.declared.notes.Pass.{Pass}
 use Rattle.copy_space.specs.Midway.{IsPlacedSoFar}
 use Rattle.copy_space.proofs.Referents.{its}
 use Rattle.page_sweep.specs.declared.sweeping.Traced.{Traced}
@@ -58,6 +59,9 @@ module _ (at : Tracing) (words : List ℕ) (pages : List Entry) (t : Traced) (pa
 
   abbrev swept : Entry → Entry
   swept e = swept_entry at.state.pins at.state.moves g t.target e
+
+  pass_is : t.pass.generation ≡ at.state.pass.generation
+  pass_is = ap (λ (p : Pass). p.generation) can.tells.pass
 
   p : IsPlacedSoFar at.heap at.state
   p = can.tells.midway.places
@@ -116,10 +120,10 @@ module _ (at : Tracing) (words : List ℕ) (pages : List Entry) (t : Traced) (pa
         freed = sym (ap (is_freed at.state.pins at.state.moves g) e ∙ both.1);
       }
 
-  pub other-exit : (ty : PageType) (h fill first k : ℕ) → entry_at pages page ≡ Used ty h fill first k → h ≢ 7 → h ≢ t.generation → Exit at words words pages pages page t.target false
+  pub other-exit : (ty : PageType) (h fill first k : ℕ) → entry_at pages page ≡ Used ty h fill first k → h ≢ 7 → h ≢ t.pass.generation → Exit at words words pages pages page t.target false
   other-exit ty h fill first k is not_taken other =
       let e : entry_at at.state.pages page ≡ Used ty h fill first k = sym can.entry ∙ is in
-      let other' : h ≢ g = λ same. other (same ∙ sym can.tells.generation) in
+      let other' : h ≢ g = λ same. other (same ∙ sym pass_is) in
       let both = entry-other at.state.pins at.state.moves g t.target ty h fill first k other' not_taken in
       let now : swept (entry_at at.state.pages page) ≡ Used ty h fill first k = ap swept e ∙ both.0 in
       record {
@@ -131,10 +135,10 @@ module _ (at : Tracing) (words : List ℕ) (pages : List Entry) (t : Traced) (pa
   abbrev own : PageType → ℕ → ℕ → ℕ → Entry
   own ty fill first k = Used ty g fill first k
 
-  own_entry : (ty : PageType) (h fill first k : ℕ) → entry_at pages page ≡ Used ty h fill first k → h ≡ t.generation → entry_at at.state.pages page ≡ own ty fill first k
-  own_entry ty h fill first k is same = sym can.entry ∙ is ∙ ap (λ (n : ℕ). Used ty n fill first k) (same ∙ can.tells.generation)
+  own_entry : (ty : PageType) (h fill first k : ℕ) → entry_at pages page ≡ Used ty h fill first k → h ≡ t.pass.generation → entry_at at.state.pages page ≡ own ty fill first k
+  own_entry ty h fill first k is same = sym can.entry ∙ is ∙ ap (λ (n : ℕ). Used ty n fill first k) (same ∙ pass_is)
 
-  pub freed-exit : (ty : PageType) (h fill first k : ℕ) (after : List Entry) → entry_at pages page ≡ Used ty h fill first k → h ≡ t.generation →
+  pub freed-exit : (ty : PageType) (h fill first k : ℕ) (after : List Entry) → entry_at pages page ≡ Used ty h fill first k → h ≡ t.pass.generation →
       is_held at.state.pins at.state.moves first ≡ false → after ≡ set pages page Free → Exit at words words pages after page t.target true
   freed-exit ty h fill first k after is same free after_is =
       let e = own_entry ty h fill first k is same in
@@ -146,7 +150,7 @@ module _ (at : Tracing) (words : List ℕ) (pages : List Entry) (t : Traced) (pa
         freed = sym (ap (is_freed at.state.pins at.state.moves g) e ∙ both.1);
       }
 
-  module _ (ty : PageType) (h fill first k : ℕ) (after : List Entry) (is : entry_at pages page ≡ Used ty h fill first k) (same : h ≡ t.generation) where
+  module _ (ty : PageType) (h fill first k : ℕ) (after : List Entry) (is : entry_at pages page ≡ Used ty h fill first k) (same : h ≡ t.pass.generation) where
     pub can-wipe : k ≡ 1 → CanWipe at words page ty fill
     can-wipe one = record {
       midway = can.tells.midway;

@@ -16,7 +16,7 @@ pub record Tells (at : Tracing) (t : Traced) : Type 0 where
   pub marks : t.marks.now ≡ at.state.marks
   pub pins : t.pins.now.listed ≡ at.state.pins
   pub moves : t.moves.now ≡ at.state.moves
-  pub generation : t.generation ≡ at.state.pass.generation
+  pub pass : t.pass ≡ at.state.pass
   pub target : t.target ≤ OLDEST_GENERATION
 
 -- a sweep can be made: besides, these are the words and pages at the end of tracing

@@ -11,7 +11,7 @@ ghost use Rattle.page_sweep.specs.Wiping.{Tracing};
 
 use crate::held::{HeldPages, flag_pins, flag_stays};
 use crate::wiping::wipe;
-use copy_space::{Marks, Move, SCRATCH_GENERATION};
+use copy_space::{Marks, Move, Pass, SCRATCH_GENERATION};
 use heap_terms::Entry;
 use page_table::PageTable;
 use pin_set::PinSet;
@@ -25,8 +25,8 @@ pub struct Traced<'m, 'p, 'n> {
     pub pins: &'p PinSet,
     /// The moves and stays.
     pub moves: &'n [Move],
-    /// The generation that is collected, 0 to 5.
-    pub generation: u8,
+    /// The pass.
+    pub pass: Pass,
     /// The generation of what remains, at most 6.
     pub target: u8,
 }
@@ -109,7 +109,7 @@ fn sweep_page(
         pages.set_gen(page, traced.target);
         return false;
     }
-    if generation != traced.generation {
+    if generation != traced.pass.generation {
         return false;
     }
     if !held.at(run_first) {
