@@ -4,3 +4,6 @@ pub mod PagesAfter
 pub mod WordsAfter
 pub mod RootsAfter
 pub mod Joined
+pub mod Evacuating
+pub mod TracedNow
+pub mod EndStates

@@ -1,1 +1,3 @@
+pub mod Evacuated
 pub mod Pass
+pub mod Tracing

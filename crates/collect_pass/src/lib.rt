@@ -3,6 +3,7 @@
 #![tactic(auto)]
 
 mod pass;
+mod tracing;
 mod room;
 
 pub use pass::{Roots, run_pass};
