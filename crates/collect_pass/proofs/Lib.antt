@@ -7,3 +7,5 @@ pub mod Joined
 pub mod Evacuating
 pub mod TracedNow
 pub mod EndStates
+pub mod Begins
+pub mod Passing

@@ -18,6 +18,7 @@ use pin_set::PinSet;
 use word_space::Space;
 
 /// What tracing found out in a pass; a sweep only reads it.
+#[derive(Clone, Copy)]
 pub struct Traced<'m, 'p, 'n> {
     /// The marks.
     pub marks: &'m Marks,
