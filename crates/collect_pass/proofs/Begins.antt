@@ -1,23 +1,21 @@
 -- The beginning of a pass: what is hit is pinned, and tracing can begin.
-use Rattle.std.proofs.Common.{◌≡◌, ◌≢◌, ℕ, ◌+◌, ◌*◌, ◌/◌, ◌<◌, ◌≤◌, List, [], ◌∷◌, length, get_or, replicate, Option, Some, None, Bool, true, false, inl, inr, refl, sym, ◌∙◌, ap, subst, nat_eq, arith}
+use Rattle.std.proofs.Common.{◌≡◌, ℕ, ◌*◌, ◌<◌, ◌≤◌, List, [], ◌∷◌, length, replicate, Option, Some, Bool, inl, inr, refl, sym, ◌∙◌, ap, subst, nat_eq, arith}
 use Rattle.std.proofs.lemmas.Bool.{cases_eq, eq-eqb, ne_eqb, and_parts, and_from}
 use Rattle.std.proofs.lemmas.List.{length-replicate}
 use Rattle.std.proofs.lemmas.List.Elements.{All-weaker}
 use Rattle.std.specs.List.{list_any}
-use Rattle.std.specs.Prelude.{All, ◌||◌, ◌==◌, vec_capacity}
+use Rattle.std.specs.Prelude.{◌||◌, ◌==◌}
 use Rattle.heap_terms.specs.declared.pages.Entry.{Entry}
 use Rattle.heap_terms.specs.Generations.{is_of}
 use Rattle.heap_terms.specs.Heap.{NamedHeap, object_at}
 use Rattle.heap_terms.specs.Layout.{reference_word}
 use Rattle.heap_terms.specs.Objects.{Object, kind_of}
-use Rattle.heap_terms.specs.Roots.{ambiguous_words, hits, is_hit, is_pinned}
+use Rattle.heap_terms.specs.Roots.{ambiguous_words, hits, is_hit}
 use Rattle.heap_terms.specs.Sound.{IsSound}
 use Rattle.pass_laws.proofs.Sizes.{words_least}
-use Rattle.copy_space.specs.declared.marks.Mark.{Mark}
 use Rattle.copy_space.specs.declared.marks.Mark.TheVariants.{Fresh}
 use Rattle.copy_space.specs.declared.notes.Pass.{Pass}
 use Rattle.copy_space.specs.declared.notes.PassNotes.{PassNotes}
-use Rattle.copy_space.specs.Copying.{CanBegin}
 use Rattle.copy_space.specs.Midway.{HasStart}
 use Rattle.ambiguous_roots.specs.HitStarts.{IsHitStart, AreHitStarts}
 use Rattle.ambiguous_roots.proofs.Referring.{few-hits}

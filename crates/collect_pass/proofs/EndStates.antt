@@ -1,10 +1,10 @@
 -- A state is told by its parts: the pages in use are those of the placement of what was moved.
-use Rattle.std.proofs.Common.{◌≡◌, ◌≢◌, ℕ, zero, suc, ◌+◌, ◌<◌, ◌≤◌, List, [], ◌∷◌, length, map, Option, Some, None, Bool, true, false, inl, inr, refl, sym, ◌∙◌, ap, subst, arith}
+use Rattle.std.proofs.Common.{◌≡◌, ◌≢◌, ℕ, zero, suc, ◌+◌, ◌<◌, ◌≤◌, List, [], ◌∷◌, length, map, Option, Some, None, Bool, true, inl, inr, refl, sym, ◌∙◌, ap, subst, arith}
 use Rattle.std.proofs.lemmas.Bool.{cases_lt, cases_Bool, eq-eqb, eqb-true, false≢true}
 use Rattle.std.proofs.lemmas.List.{get_or_past}
 use Rattle.std.proofs.lemmas.List.Elements.{All-head, All-tail}
 use Rattle.std.specs.List.{range_with_len}
-use Rattle.std.specs.Prelude.{All, find, unwrap_or, ◌==◌}
+use Rattle.std.specs.Prelude.{All, find, unwrap_or}
 use Rattle.heap_terms.specs.declared.cells.Value.{Value}
 use Rattle.heap_terms.specs.declared.cells.Value.TheVariants as values
 use Rattle.heap_terms.specs.declared.events.Placing.{Placing}
@@ -20,10 +20,10 @@ use Rattle.copy_space.specs.declared.marks.Mark.{Mark}
 use Rattle.copy_space.specs.declared.notes.Move.{Move}
 use Rattle.copy_space.specs.declared.notes.Pass.{Pass}
 use Rattle.copy_space.specs.declared.placing.PagesInUse.{PagesInUse}
-use Rattle.copy_space.specs.Midway.{IsPlacedSoFar, StandsMidway, Midway}
+use Rattle.copy_space.specs.Midway.{IsPlacedSoFar, StandsMidway}
 use Rattle.copy_space.specs.Moved.{noted}
 use Rattle.copy_space.specs.Settled.{is_settled, settles, word_now, IsNewWord}
-use Rattle.copy_space.specs.State.{CopyState, placing_on}
+use Rattle.copy_space.specs.State.{CopyState}
 use Rattle.copy_space.proofs.Names.{same_name}
 use Rattle.copy_space.proofs.Referents.{ms, its}
 use Rattle.trace_laws.specs.Rooted.{Rooted}

@@ -1,11 +1,11 @@
 -- What tracing and the sweep leave stands for the heap after the pass.
-use Rattle.std.proofs.Common.{◌≡◌, ℕ, ◌≤◌, ◌↔◌, List, map, get_or, Bool, true, refl, sym, ◌∙◌, ap, subst, nat_eq}
+use Rattle.std.proofs.Common.{◌≡◌, ℕ, ◌≤◌, ◌↔◌, List, map, get_or, Bool, refl, sym, ◌∙◌, ap, subst, nat_eq}
 use Rattle.std.specs.List.{list_any}
 use Rattle.heap_terms.specs.declared.cells.Value.{Value}
 use Rattle.heap_terms.specs.declared.cells.Value.TheVariants as values
 use Rattle.heap_terms.specs.declared.events.PassRecord.{PassRecord}
 use Rattle.heap_terms.specs.declared.pages.Entry.{Entry}
-use Rattle.heap_terms.specs.Heap.{NamedHeap, Thread, zero_value}
+use Rattle.heap_terms.specs.Heap.{NamedHeap, zero_value}
 use Rattle.heap_terms.specs.Live.{is_live, AreLive}
 use Rattle.heap_terms.specs.Passes.{after_pass, remains}
 use Rattle.heap_terms.specs.Spelling.{word_of}
@@ -18,7 +18,7 @@ use Rattle.trace_laws.specs.Ends.{IsEnd}
 use Rattle.trace_laws.specs.Rooted.{Rooted, RootsStand, StandFor, IsExactRoot}
 use Rattle.trace_laws.specs.Traced.{IsTraced, IsStrongHeap}
 use Rattle.collect_pass.proofs.PagesAfter.{pages-after}
-use Rattle.collect_pass.proofs.RootsAfter.{map-same, threads-after, shared-after, ambiguous-after}
+use Rattle.collect_pass.proofs.RootsAfter.{map-same, ambiguous-after}
 use Rattle.collect_pass.proofs.WordsAfter.{words-after}
 
 live-same : (f g : ℕ → Bool) → ((name : ℕ) → f name ≡ g name) → (v : Value) → is_live f v ≡ is_live g v

@@ -1,17 +1,16 @@
 -- The record at the end of tracing has the copier's placement.
-use Rattle.std.proofs.Common.{◌≡◌, ℕ, List, [], ◌∷◌, map, length, Option, Some, refl, sym, ◌∙◌, ap, subst}
+use Rattle.std.proofs.Common.{◌≡◌, ℕ, List, [], ◌∷◌, map, Some, refl, sym, ◌∙◌, ap, subst}
 use Rattle.std.proofs.lemmas.List.Elements.{All-head, All-tail}
 use Rattle.std.specs.Prelude.{All, unwrap_or}
 use Rattle.heap_terms.specs.declared.events.PassRecord.{PassRecord}
 use Rattle.heap_terms.specs.declared.events.Placing.{Placing}
-use Rattle.heap_terms.specs.declared.pages.Entry.{Entry}
 use Rattle.heap_terms.specs.Heap.{NamedHeap, object_at}
 use Rattle.heap_terms.specs.Objects.{Object}
-use Rattle.heap_terms.specs.Passes.{IsPass, moved_to, order_of}
+use Rattle.heap_terms.specs.Passes.{moved_to, order_of}
 use Rattle.heap_terms.specs.Placement.{Placement, placement}
 use Rattle.heap_terms.specs.Sound.{IsSound}
 use Rattle.pass_laws.proofs.AfterPages.{spread}
-use Rattle.pass_laws.proofs.Spreading.{IsMoveOf, IsPlacing}
+use Rattle.pass_laws.proofs.Spreading.{IsMoveOf}
 use Rattle.copy_space.specs.declared.notes.Move.{Move}
 use Rattle.copy_space.specs.Midway.{IsPlacedSoFar}
 use Rattle.copy_space.specs.Moved.{new_of, noted}

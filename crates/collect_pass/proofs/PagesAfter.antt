@@ -1,5 +1,5 @@
 -- The pages after the sweep are those of the heap after the pass, and the pages that it freed are those that the record tells.
-use Rattle.std.proofs.Common.{◌≡◌, ◌≢◌, ℕ, ◌+◌, ◌/◌, ◌<◌, ◌≤◌, List, [], ◌∷◌, map, length, Option, Some, None, Bool, true, false, inl, inr, refl, sym, ◌∙◌, ap, subst, arith}
+use Rattle.std.proofs.Common.{◌≡◌, ◌≢◌, ℕ, ◌/◌, ◌<◌, List, [], ◌∷◌, map, length, Option, Some, None, Bool, false, inl, inr, refl, sym, ◌∙◌, ap, arith}
 use Rattle.std.proofs.lemmas.Bool.{cases_Bool, eq-eqb, ne_eqb, false≢true}
 use Rattle.std.proofs.lemmas.List.{ext_get_or, get_or-map, length-map}
 use Rattle.std.proofs.lemmas.List.Elements.{All-head, All-tail}
@@ -8,12 +8,10 @@ use Rattle.std.specs.Prelude.{All, filter, not, is_none, unwrap_or, ◌==◌, �
 use Rattle.heap_terms.specs.declared.events.PassRecord.{PassRecord}
 use Rattle.heap_terms.specs.declared.events.PinAt.{PinAt}
 use Rattle.heap_terms.specs.declared.events.Placing.{Placing}
-use Rattle.heap_terms.specs.declared.kinds.PageType.{PageType}
 use Rattle.heap_terms.specs.declared.pages.Entry.{Entry}
 use Rattle.heap_terms.specs.declared.pages.Entry.TheVariants.{Free, Used}
 use Rattle.heap_terms.specs.Heap.{NamedHeap, entry_at}
-use Rattle.heap_terms.specs.Passes.{after_pass, order_of, entry_after, is_held, is_freed, freed_of}
-use Rattle.heap_terms.specs.Placement.{placement}
+use Rattle.heap_terms.specs.Passes.{after_pass, entry_after, is_held, is_freed}
 use Rattle.pass_laws.proofs.AfterPages.{entry_is, pages_long, freed_page, page_freed}
 use Rattle.copy_space.specs.declared.notes.Move.{Move}
 use Rattle.copy_space.specs.Midway.{IsPlacedSoFar}

@@ -1,13 +1,11 @@
 -- From the end of tracing to the end of the pass.
-use Rattle.std.proofs.Common.{◌≡◌, ℕ, ◌+◌, ◌*◌, ◌<◌, ◌≤◌, List, [], length, map, replicate, Bool, true, false, refl, sym, ◌∙◌, ap, subst, arith}
-use Rattle.std.proofs.lemmas.List.{length-replicate}
-use Rattle.std.specs.Prelude.{count_by, vec_capacity, if◌then◌else◌}
+use Rattle.std.proofs.Common.{◌≡◌, ℕ, ◌*◌, ◌≤◌, List, [], length, replicate, Bool, true, false, refl, sym, ◌∙◌, ap, subst, arith}
+use Rattle.std.specs.Prelude.{count_by, vec_capacity}
 use Rattle.heap_terms.specs.declared.events.PassRecord.{PassRecord}
-use Rattle.heap_terms.specs.declared.events.PinAt.{PinAt}
 use Rattle.heap_terms.specs.declared.limits.TheConstants.{OLDEST_COLLECTED}
 use Rattle.heap_terms.specs.declared.pages.Entry.{Entry}
 use Rattle.heap_terms.specs.Generations.{is_of, names}
-use Rattle.heap_terms.specs.Passes.{IsPass, after_pass, remains}
+use Rattle.heap_terms.specs.Passes.{IsPass, remains}
 use Rattle.heap_terms.specs.Policy.{target_of}
 use Rattle.copy_space.specs.declared.marks.Mark.{Mark}
 use Rattle.copy_space.specs.declared.marks.Mark.TheVariants.{Fresh}
@@ -15,24 +13,22 @@ use Rattle.copy_space.specs.declared.notes.Move.{Move}
 use Rattle.copy_space.specs.declared.notes.Pass.{Pass}
 use Rattle.copy_space.specs.declared.notes.PassNotes.{PassNotes}
 use Rattle.copy_space.specs.Clearing.{AreMarks}
-use Rattle.copy_space.specs.Moved.{noted}
 use Rattle.copy_space.specs.Notes.{SameButMoves}
 use Rattle.copy_space.proofs.Listed.{marks-told}
 use Rattle.copy_space.proofs.Referents.{its}
 use Rattle.page_sweep.specs.declared.sweeping.Traced.{Traced}
 use Rattle.page_sweep.specs.Swept.{IsSwept}
 use Rattle.page_sweep.specs.Sweeping.{CanSweep}
-use Rattle.page_sweep.specs.Wiping.{Tracing}
 use Rattle.pin_set.specs.Starts.{Starts}
 use Rattle.ambiguous_roots.specs.HitStarts.{AreHitStarts}
 use Rattle.trace_laws.specs.Ends.{IsEnd}
 use Rattle.trace_laws.specs.Noted.{IsToldBy}
-use Rattle.trace_laws.specs.Rooted.{Rooted, StandFor}
+use Rattle.trace_laws.specs.Rooted.{Rooted}
 use Rattle.trace_laws.specs.Traced.{IsTraced}
 use Rattle.trace_laws.proofs.Ending.{traces-end}
 use Rattle.collect_pass.specs.declared.room.PassRoom.TheInside.{Inside}
 use Rattle.collect_pass.specs.Pass.{RoomView, CanPass, IsPassDone}
-use Rattle.collect_pass.specs.Room.{room_view, IsRoom, AreNotesFor, AreCleared, CanFinish, AreFinished}
+use Rattle.collect_pass.specs.Room.{room_view, IsRoom, AreCleared, CanFinish, AreFinished}
 use Rattle.collect_pass.specs.Tracing.{end_state}
 use Rattle.collect_pass.proofs.Begins.{held-long, few-pins}
 use Rattle.collect_pass.proofs.Joined.{stand-after}

@@ -1,7 +1,6 @@
 -- The roots after a pass: what is hit keeps its place, so the ambiguous words are as they were.
-use Rattle.std.proofs.Common.{◌≡◌, ℕ, zero, suc, ◌+◌, ◌<◌, List, [], ◌∷◌, ◌++◌, map, length, get_or, Option, Some, None, Bool, true, false, inl, inr, refl, sym, ◌∙◌, ap, subst, arith}
+use Rattle.std.proofs.Common.{◌≡◌, ℕ, suc, ◌<◌, List, [], ◌∷◌, ◌++◌, map, length, get_or, Option, Some, None, true, inl, inr, refl, sym, ◌∙◌, ap, arith}
 use Rattle.std.proofs.lemmas.Bool.{cases_Bool, false≢true, and_from, eqb-true}
-use Rattle.std.specs.List.{list_any}
 use Rattle.std.specs.Prelude.{IsSome, flat_map, unwrap_or, ◌==◌}
 use Rattle.heap_terms.specs.declared.cells.Value.{Value}
 use Rattle.heap_terms.specs.declared.cells.Value.TheVariants as values
@@ -9,7 +8,7 @@ use Rattle.heap_terms.specs.declared.events.PassRecord.{PassRecord}
 use Rattle.heap_terms.specs.declared.events.Placing.{Placing}
 use Rattle.heap_terms.specs.declared.kinds.Kind.{Kind}
 use Rattle.heap_terms.specs.Generations.{is_of}
-use Rattle.heap_terms.specs.Heap.{NamedHeap, Thread, object_at, thread_at, zero_value, fresh_thread, ended_thread}
+use Rattle.heap_terms.specs.Heap.{NamedHeap, object_at, thread_at, zero_value, fresh_thread, ended_thread}
 use Rattle.heap_terms.specs.Layout.{reference_word}
 use Rattle.heap_terms.specs.Objects.{Object, kind_of}
 use Rattle.heap_terms.specs.Passes.{IsPass, after_pass, remains, moved_to}
@@ -18,7 +17,7 @@ use Rattle.heap_terms.specs.Sound.{IsSound}
 use Rattle.heap_terms.specs.Spelling.{word_of, word_of_object}
 use Rattle.heap_terms.specs.Survival.{surviving}
 use Rattle.pass_laws.proofs.AfterPages.{object_at-after, surviving-kind}
-use Rattle.pass_laws.proofs.AfterPass.{object_then, remains_after}
+use Rattle.pass_laws.proofs.AfterPass.{remains_after}
 use Rattle.pass_laws.proofs.AfterRoots.{stack_hits}
 use Rattle.pass_laws.proofs.Lookups.{found_at}
 use Rattle.pass_laws.proofs.Spreading.{is_in, moved_to-none}

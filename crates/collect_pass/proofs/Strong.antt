@@ -1,8 +1,6 @@
 -- Objects that keep what they hold whatever is live: a pass leaves what they hold, and none of their words is a side.
-use Rattle.std.proofs.Common.{◌≡◌, ℕ, zero, suc, ◌+◌, ◌-◌, List, [], ◌∷◌, ◌++◌, map, length, replicate, Option, Some, None, Bool, true, false, refl, ◌∙◌, ap, subst}
-
+use Rattle.std.proofs.Common.{◌≡◌, ℕ, zero, suc, List, [], ◌∷◌, ◌++◌, map, replicate, Option, Some, None, Bool, true, false, refl, ◌∙◌, ap, subst}
 use Rattle.std.proofs.lemmas.Option.{same_Some}
-
 use Rattle.std.specs.Prelude.{slice_get, flat_map, filter, not, ◌&&◌, if◌then◌else◌}
 use Rattle.heap_terms.specs.declared.cells.Value.{Value}
 use Rattle.heap_terms.specs.declared.events.Cull.{Cull}

@@ -1,19 +1,16 @@
 -- Evacuating the exact roots and scanning what is older and what has moved comes to the end of tracing.
-use Rattle.std.proofs.Common.{◌≡◌, ◌≢◌, ℕ, ◌+◌, ◌<◌, ◌≤◌, List, [], length, map, get_or, Option, Some, None, Bool, true, false, ◌⊎◌, inl, inr, refl, sym, ◌∙◌, ap, subst, nat_eq, arith}
+use Rattle.std.proofs.Common.{◌≡◌, ◌≢◌, ℕ, ◌<◌, List, [], length, map, get_or, Option, Some, None, Bool, true, false, inl, inr, refl, sym, ◌∙◌, ap, subst, nat_eq, arith}
 use Rattle.std.proofs.lemmas.Bool.{cases_lt, cases_eq, cases_Bool, and_parts, eq-eqb, eqb-true, ne_eqb, false≢true}
 use Rattle.std.proofs.lemmas.List.{ext_get_or, get_or-map, get_or_past, length-map}
 use Rattle.std.specs.List.{list_any}
 use Rattle.std.specs.Prelude.{not, ◌||◌, ◌==◌}
-use Rattle.heap_terms.specs.declared.cells.Value.{Value}
-use Rattle.heap_terms.specs.declared.cells.Value.TheVariants as values
 use Rattle.heap_terms.specs.Generations.{is_of}
-use Rattle.heap_terms.specs.Heap.{NamedHeap, object_at, thread_at, zero_value}
+use Rattle.heap_terms.specs.Heap.{NamedHeap, object_at, zero_value}
 use Rattle.heap_terms.specs.Live.{IsClosed, is_live}
 use Rattle.heap_terms.specs.Objects.{Object}
 use Rattle.heap_terms.specs.Roots.{is_hit, is_pinned}
 use Rattle.pass_laws.specs.Reached.{HasName}
 use Rattle.pass_laws.proofs.Lookups.{found_at}
-use Rattle.copy_space.specs.declared.marks.Mark.TheVariants as marks
 use Rattle.copy_space.specs.declared.notes.Pass.{Pass}
 use Rattle.copy_space.specs.Marks.{mark_at, is_set}
 use Rattle.copy_space.specs.Midway.{Midway}
@@ -21,7 +18,7 @@ use Rattle.copy_space.specs.Moved.{mark_for}
 use Rattle.copy_space.specs.Settled.{is_settled, settles, word_now, IsNewWord}
 use Rattle.copy_space.specs.State.{CopyState}
 use Rattle.copy_space.specs.Frames.{Grows}
-use Rattle.copy_space.proofs.FrameLaws.{Grows-on, new-word-stays, settled-stays, scanned-stays}
+use Rattle.copy_space.proofs.FrameLaws.{Grows-on, new-word-stays, scanned-stays}
 use Rattle.copy_space.proofs.Names.{same_name}
 use Rattle.copy_space.proofs.Referents.{mark_is}
 use Rattle.scavenge.specs.Scanning.{Scans, OthersScanned, AllOfGenerationScanned}

@@ -1,20 +1,17 @@
 -- The words after the sweep stand for the heap after the pass.
-use Rattle.std.proofs.Common.{◌≡◌, ℕ, ◌+◌, ◌*◌, ◌<◌, ◌≤◌, List, length, Option, Some, None, Bool, true, false, refl, sym, ◌∙◌, ap, subst}
-use Rattle.std.proofs.lemmas.Bool.{cases_Bool}
+use Rattle.std.proofs.Common.{◌≡◌, ℕ, ◌+◌, ◌*◌, ◌<◌, ◌≤◌, List, Option, Some, None, Bool, true, false, refl, sym, ◌∙◌, ap, subst}
 use Rattle.std.proofs.lemmas.Option.{same_Some}
 use Rattle.std.specs.Prelude.{IfSome, slice_index, if◌then◌else◌}
 use Rattle.heap_terms.specs.declared.events.PassRecord.{PassRecord}
 use Rattle.heap_terms.specs.declared.pages.Entry.{Entry}
 use Rattle.heap_terms.specs.Heap.{NamedHeap, object_at, entry_at, fill_of}
-use Rattle.heap_terms.specs.Layout.{filler_word}
 use Rattle.heap_terms.specs.Objects.{Object, Contents, words_of_object}
 use Rattle.heap_terms.specs.OnPages.{IsOwned}
 use Rattle.heap_terms.specs.Passes.{after_pass, remains}
 use Rattle.heap_terms.specs.Slots.{Slot, Raw, Val, Side, Kept, slot_at}
 use Rattle.heap_terms.specs.Stands.{StandsFor, SlotsStand, KeptStand, WordsStand}
-use Rattle.heap_terms.specs.Survival.{surviving}
 use Rattle.pass_laws.proofs.AfterPages.{pages_long}
-use Rattle.pass_laws.proofs.AfterPass.{object_then, Remains, remaining, remains_after}
+use Rattle.pass_laws.proofs.AfterPass.{object_then, remaining, remains_after}
 use Rattle.copy_space.specs.Midway.{IsPlacedSoFar}
 use Rattle.copy_space.specs.Moved.{new_of, now_at}
 use Rattle.copy_space.specs.Settled.{is_settled}
@@ -105,11 +102,15 @@ module _ (h : Rooted) (s : CopyState) (exact : List ℕ) (traced : IsTraced h s 
           let is : q ≡ record o { place = new_of s.moves o.place } = sym (same_Some (record o { place = new_of s.moves o.place }) q f) in
           let from : new_of s.moves o.place ≤ i = subst (λ (t : Object). t.place ≤ i) is belongs.from in
           let below : i < new_of s.moves o.place + words_of_object o = subst (λ (t : Object). i < t.place + words_of_object t) is belongs.below in
-          let size : words_of_object (object_then a r x o) ≡ words_of_object o = ap (λ (k : Contents). words_of_object (record o { contents = k })) (contents-then x o e) in
-          (x, object_then a r x o, remains_after a s.pass.generation target r p.sound end.is_pass x o e (end.remains_are x ∙ live), record {
-            from = subst (λ (place : ℕ). place ≤ i) (sym (place-then x o e)) from;
-            below = subst (λ (place : ℕ). i < place + words_of_object (object_then a r x o)) (sym (place-then x o e)) (subst (λ (n : ℕ). i < new_of s.moves o.place + n) (sym size) below);
-          })
+          let size : words_of_object (object_then a r x o) ≡ words_of_object o = ap (λ (k : Contents). words_of_object (record o { contents = k })) (contents-then x o e) in (
+            x,
+            object_then a r x o,
+            remains_after a s.pass.generation target r p.sound end.is_pass x o e (end.remains_are x ∙ live),
+            record {
+              from = subst (λ (place : ℕ). place ≤ i) (sym (place-then x o e)) from;
+              below = subst (λ (place : ℕ). i < place + words_of_object (object_then a r x o)) (sym (place-then x o e)) (subst (λ (n : ℕ). i < new_of s.moves o.place + n) (sym size) below);
+            },
+          )
 
   pub words-after : WordsStand (after_pass a r) words
   words-after = record {

@@ -4,7 +4,6 @@ use Rattle.heap_terms.specs.declared.limits.TheConstants.{MOST_PAGES}
 use Rattle.copy_space.specs.declared.marks.Mark.TheVariants.{Fresh}
 use Rattle.copy_space.specs.declared.notes.Pass.{Pass}
 use Rattle.copy_space.specs.declared.notes.PassNotes.{PassNotes}
-use Rattle.heap_terms.specs.Policy.{target_of}
 use Rattle.collect_pass.specs.declared.room.PassRoom.TheInside.{Inside}
 use Rattle.collect_pass.specs.Pass.{RoomView}
 

@@ -13,7 +13,7 @@ use Rattle.copy_space.specs.declared.placing.PagesInUse.{PagesInUse}
 use Rattle.copy_space.specs.Copying.{CanBegin}
 use Rattle.copy_space.specs.State.{CopyState}
 use Rattle.trace_laws.specs.Rooted.{Rooted, RootsStand}
-use Rattle.trace_laws.specs.Traced.{IsTraced, ArePinnedStarts}
+use Rattle.trace_laws.specs.Traced.{ArePinnedStarts}
 
 -- whether an object is there and begins at an index
 abbrev pub begins_at : ℕ → Option Object → Bool

@@ -32,13 +32,7 @@ fn copy_pins(list: &mut Vec<u32>, pins: &PinSet)
 
 /// Notes the pins, the generations and the counts of a pass over a generation that had so many
 /// objects.
-pub(crate) fn finish_notes(
-    notes: &mut PassNotes,
-    pins: &PinSet,
-    pass: Pass,
-    target: u8,
-    count: u32,
-)
+pub(crate) fn finish_notes(notes: &mut PassNotes, pins: &PinSet, pass: Pass, target: u8, count: u32)
     requires { CanFinish notes.old pins.now.listed count }
     ensures { AreFinished notes.old notes.new pins.now.listed pass target count }
 {

@@ -79,18 +79,8 @@ pub fn run_pass(
         pass,
         target,
     };
-    sweep(
-        space,
-        pages,
-        &traced,
-        &mut room.held,
-        &mut room.notes.freed,
-    );
+    sweep(space, pages, &traced, &mut room.held, &mut room.notes.freed);
     finish_notes(&mut room.notes, &room.pins, pass, target, count);
-    clear_marks(
-        &mut room.marks,
-        &room.pins,
-        room.notes.moves.as_slice(),
-    );
+    clear_marks(&mut room.marks, &room.pins, room.notes.moves.as_slice());
     room.pins.clear();
 }

@@ -5,7 +5,6 @@ use Rattle.ambiguous_roots.specs.HitStarts.{AreHitStarts}
 use Rattle.collect_pass.specs.Pass.{IsPassDone}
 use Rattle.collect_pass.proofs.Begins.{can-trace}
 use Rattle.collect_pass.proofs.Passing.{can-sweep, held-clear, freed-none, freed-room, can-finish, can-clear, pass-done, room-again}
-use Rattle.collect_pass.proofs.pass.run_pass.Given as given
 use Rattle.collect_pass.proofs.pass.run_pass.Goals as goal
 
 pub trace-requires : goal.trace-requires
@@ -16,20 +15,25 @@ trace-requires g c =
 
 pub sweep-requires : goal.sweep-requires
 sweep-requires g c =
-    let hit = subst (λ (ws : List ℕ). AreHitStarts g.h.heap c.args.pass.generation ws c.find_pins-count.new.pins.listed) c.as_slice-ambiguous.ensures.value c.find_pins-count.ensures.pins in
-    (can-sweep g.h c.args.space.now c.args.pages.now c.args.roots.now.exact.items c.args.roots.now.ambiguous.items c.args.pass c.args.room.now c.requires c.room.inside c.room.invariant c.room.view_is
-    c.find_pins-count.new.pins hit c.find_pins-count.ensures.most c.find_pins-count.result c.find_pins-count.ensures.count c.clear_notes.new.notes c.clear_notes.ensures
-    c.trace.new.space c.trace.new.pages c.trace.new.marks c.trace.new.exact c.trace.new.notes c.trace.ensures.traced c.trace.ensures.notes c.trace.ensures.room
-    _ c.as_slice.result.now c.as_slice.ensures.value refl refl refl refl c.target_of-target.ensures,
-    (held-clear g.h c.args.space.now c.args.pages.now c.args.roots.now.exact.items c.args.roots.now.ambiguous.items c.args.pass c.args.room.now c.requires c.room.inside c.room.invariant c.room.view_is
-    c.find_pins-count.new.pins hit c.find_pins-count.ensures.most c.find_pins-count.result c.find_pins-count.ensures.count c.clear_notes.new.notes c.clear_notes.ensures
-    c.trace.new.space c.trace.new.pages c.trace.new.marks c.trace.new.exact c.trace.new.notes c.trace.ensures.traced c.trace.ensures.notes c.trace.ensures.room,
-    (freed-none g.h c.args.space.now c.args.pages.now c.args.roots.now.exact.items c.args.roots.now.ambiguous.items c.args.pass c.args.room.now c.requires c.room.inside c.room.invariant c.room.view_is
-    c.find_pins-count.new.pins hit c.find_pins-count.ensures.most c.find_pins-count.result c.find_pins-count.ensures.count c.clear_notes.new.notes c.clear_notes.ensures
-    c.trace.new.space c.trace.new.pages c.trace.new.marks c.trace.new.exact c.trace.new.notes c.trace.ensures.traced c.trace.ensures.notes c.trace.ensures.room,
-    freed-room g.h c.args.space.now c.args.pages.now c.args.roots.now.exact.items c.args.roots.now.ambiguous.items c.args.pass c.args.room.now c.requires c.room.inside c.room.invariant c.room.view_is
-    c.find_pins-count.new.pins hit c.find_pins-count.ensures.most c.find_pins-count.result c.find_pins-count.ensures.count c.clear_notes.new.notes c.clear_notes.ensures
-    c.trace.new.space c.trace.new.pages c.trace.new.marks c.trace.new.exact c.trace.new.notes c.trace.ensures.traced c.trace.ensures.notes c.trace.ensures.room)))
+    let hit = subst (λ (ws : List ℕ). AreHitStarts g.h.heap c.args.pass.generation ws c.find_pins-count.new.pins.listed) c.as_slice-ambiguous.ensures.value c.find_pins-count.ensures.pins in (
+      can-sweep g.h c.args.space.now c.args.pages.now c.args.roots.now.exact.items c.args.roots.now.ambiguous.items c.args.pass c.args.room.now c.requires c.room.inside c.room.invariant c.room.view_is
+          c.find_pins-count.new.pins hit c.find_pins-count.ensures.most c.find_pins-count.result c.find_pins-count.ensures.count c.clear_notes.new.notes c.clear_notes.ensures
+          c.trace.new.space c.trace.new.pages c.trace.new.marks c.trace.new.exact c.trace.new.notes c.trace.ensures.traced c.trace.ensures.notes c.trace.ensures.room
+          _ c.as_slice.result.now c.as_slice.ensures.value refl refl refl refl c.target_of-target.ensures,
+      (
+        held-clear g.h c.args.space.now c.args.pages.now c.args.roots.now.exact.items c.args.roots.now.ambiguous.items c.args.pass c.args.room.now c.requires c.room.inside c.room.invariant c.room.view_is
+            c.find_pins-count.new.pins hit c.find_pins-count.ensures.most c.find_pins-count.result c.find_pins-count.ensures.count c.clear_notes.new.notes c.clear_notes.ensures
+            c.trace.new.space c.trace.new.pages c.trace.new.marks c.trace.new.exact c.trace.new.notes c.trace.ensures.traced c.trace.ensures.notes c.trace.ensures.room,
+        (
+          freed-none g.h c.args.space.now c.args.pages.now c.args.roots.now.exact.items c.args.roots.now.ambiguous.items c.args.pass c.args.room.now c.requires c.room.inside c.room.invariant c.room.view_is
+              c.find_pins-count.new.pins hit c.find_pins-count.ensures.most c.find_pins-count.result c.find_pins-count.ensures.count c.clear_notes.new.notes c.clear_notes.ensures
+              c.trace.new.space c.trace.new.pages c.trace.new.marks c.trace.new.exact c.trace.new.notes c.trace.ensures.traced c.trace.ensures.notes c.trace.ensures.room,
+          freed-room g.h c.args.space.now c.args.pages.now c.args.roots.now.exact.items c.args.roots.now.ambiguous.items c.args.pass c.args.room.now c.requires c.room.inside c.room.invariant c.room.view_is
+              c.find_pins-count.new.pins hit c.find_pins-count.ensures.most c.find_pins-count.result c.find_pins-count.ensures.count c.clear_notes.new.notes c.clear_notes.ensures
+              c.trace.new.space c.trace.new.pages c.trace.new.marks c.trace.new.exact c.trace.new.notes c.trace.ensures.traced c.trace.ensures.notes c.trace.ensures.room,
+        ),
+      ),
+    )
 
 pub finish_notes-requires : goal.finish_notes-requires
 finish_notes-requires g c =

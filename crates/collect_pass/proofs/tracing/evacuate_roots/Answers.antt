@@ -1,5 +1,5 @@
 -- One exact root after another is evacuated.
-use Rattle.std.proofs.Common.{◌≡◌, ℕ, ◌+◌, List, length, set, sym, ◌∙◌, ap, subst, arith}
+use Rattle.std.proofs.Common.{◌≡◌, ℕ, length, subst, arith}
 use Rattle.copy_space.specs.State.{state}
 use Rattle.scavenge.proofs.Frames.{same-on, same-self}
 use Rattle.collect_pass.proofs.Evacuating.{AreEvacuatedUpTo, none-evacuated, next-can, one-evacuated, all-evacuated}
