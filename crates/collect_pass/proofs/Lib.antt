@@ -1,0 +1,11 @@
+pub mod Strong
+pub mod Orders
+pub mod PagesAfter
+pub mod WordsAfter
+pub mod RootsAfter
+pub mod Joined
+pub mod Evacuating
+pub mod TracedNow
+pub mod EndStates
+pub mod Begins
+pub mod Passing

@@ -1,1 +1,4 @@
+pub mod Evacuated
 pub mod Pass
+pub mod Room
+pub mod Tracing

@@ -1,7 +1,7 @@
 -- One pass over the words, the pages and the roots of a heap.
-use Rattle.std.specs.Prelude.{◌≡◌, ℕ, ◌≤◌, List, length, Bool, true, false, if◌then◌else◌}
+use Rattle.std.specs.Prelude.{◌≡◌, ℕ, ◌≤◌, List, length, false}
 use Rattle.heap_terms.specs.declared.events.PassRecord.{PassRecord}
-use Rattle.heap_terms.specs.declared.limits.TheConstants.{OLDEST_COLLECTED, MOST_PAGES}
+use Rattle.heap_terms.specs.declared.limits.TheConstants.{OLDEST_COLLECTED}
 use Rattle.heap_terms.specs.declared.pages.Entry.{Entry}
 use Rattle.heap_terms.specs.Passes.{IsPass, after_pass}
 use Rattle.heap_terms.specs.Policy.{target_of}

@@ -2,8 +2,10 @@
 //! everything else of it is gone.
 #![tactic(auto)]
 
+mod notes;
 mod pass;
 mod room;
+mod tracing;
 
 pub use pass::{Roots, run_pass};
 pub use room::PassRoom;

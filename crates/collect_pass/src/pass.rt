@@ -1,11 +1,17 @@
-//! The pass itself. A STAND-IN.
+//! The pass itself.
 
-ghost use Rattle.std.specs.Prelude.{◌≡◌};
+ghost use Rattle.std.specs.Prelude.{◌≡◌, ◌≤◌, false};
+ghost use Rattle.heap_terms.specs.declared.limits.TheConstants.{OLDEST_COLLECTED};
+ghost use Rattle.heap_terms.specs.Policy.{target_of as target_after};
 ghost use Rattle.collect_pass.specs.Pass.{CanPass, IsPassDone};
 ghost use Rattle.trace_laws.specs.Rooted.{Rooted};
 
+use crate::notes::{clear_notes, finish_notes};
 use crate::room::PassRoom;
-use copy_space::Pass;
+use crate::tracing::trace;
+use ambiguous_roots::find_pins;
+use copy_space::{Pass, clear_marks};
+use page_sweep::{Traced, sweep};
 use page_table::PageTable;
 use word_space::Space;
 
@@ -16,6 +22,18 @@ pub struct Roots {
     pub exact: Vec<u64>,
     /// The words that pin what they hit. No pass changes them.
     pub ambiguous: Vec<u64>,
+}
+
+/// The generation of what remains of a pass.
+fn target_of(pass: Pass) -> u8
+    requires { pass.generation ≤ OLDEST_COLLECTED }
+    ensures { result ≡ target_after pass.generation pass.raise }
+{
+    if pass.raise {
+        pass.generation + 1
+    } else {
+        pass.generation
+    }
 }
 
 /// Makes one pass. It takes no memory and cannot be refused.
@@ -33,5 +51,36 @@ pub fn run_pass(
     ensures room_pages { room.new.pages ≡ room.old.pages }
     ensures room_ambiguous { room.new.ambiguous ≡ room.old.ambiguous }
 {
-    room.no()
+    clear_notes(&mut room.notes);
+    let ambiguous = roots.ambiguous.as_slice();
+    let count = find_pins(
+        space,
+        pages,
+        pass.generation,
+        ambiguous,
+        &mut room.hints,
+        &mut room.pins,
+    );
+    let exact = roots.exact.as_mut_slice();
+    trace(
+        space,
+        pages,
+        &mut room.marks,
+        &room.pins,
+        pass,
+        exact,
+        &mut room.notes,
+    );
+    let target = target_of(pass);
+    let traced = Traced {
+        marks: &room.marks,
+        pins: &room.pins,
+        moves: room.notes.moves.as_slice(),
+        pass,
+        target,
+    };
+    sweep(space, pages, &traced, &mut room.held, &mut room.notes.freed);
+    finish_notes(&mut room.notes, &room.pins, pass, target, count);
+    clear_marks(&mut room.marks, &room.pins, room.notes.moves.as_slice());
+    room.pins.clear();
 }

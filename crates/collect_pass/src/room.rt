@@ -1,22 +1,27 @@
-//! The room for passes. A STAND-IN: `reserve` always refuses, so no room is ever there.
+//! The room for passes.
 
-ghost use Rattle.std.specs.Prelude.{◌≡◌, ◌≤◌, IfOk};
+ghost use Rattle.std.specs.Prelude.{◌≡◌, ◌*◌, ◌+◌, ◌-◌, ◌≤◌, IfOk};
 ghost use Rattle.heap_terms.specs.declared.limits.TheConstants.{MOST_PAGES};
 ghost use Rattle.collect_pass.specs.Pass.{IsReservedFor};
+ghost use Rattle.collect_pass.specs.Room.{AreNotesFor};
 
-use copy_space::PassNotes;
-use heap_terms::Memory;
+use ambiguous_roots::Hints;
+use copy_space::{Marks, PassNotes};
+use heap_terms::{Memory, PAGE_WORDS};
+use page_sweep::HeldPages;
+use pin_set::PinSet;
 use std::alloc::Global;
-use std::convert::Infallible;
 use std::marker::Model;
 
-/// What passes over one heap need beside it. It is reserved before the first pass, so that a pass takes no memory.
+/// What passes over one heap need beside it. It is reserved before the first pass, so that a pass
+/// takes no memory. Between passes all of it but the notes is clear.
 #[derive(Drop)]
 pub struct PassRoom {
-    notes: PassNotes,
-    pages: u32,
-    ambiguous: u32,
-    never: Infallible,
+    pub(crate) marks: Marks,
+    pub(crate) hints: Hints,
+    pub(crate) pins: PinSet,
+    pub(crate) held: HeldPages,
+    pub(crate) notes: PassNotes,
 }
 
 impl Model for PassRoom {
@@ -24,16 +29,27 @@ impl Model for PassRoom {
 
     ghost Value = { RoomView };
 
-    ghost view = { λ r. record { notes = r.notes; pages = r.pages; ambiguous = r.ambiguous } };
+    ghost use Rattle.collect_pass.specs.Room.{room_view, IsRoom};
+
+    ghost view = { room_view };
+
+    ghost invariant = { IsRoom };
 }
 
 impl PassRoom {
-    /// Room for passes over a heap of so many pages, with at most so many ambiguous roots. It is refused only for want of memory.
-    pub fn reserve(_alloc: Global, pages: u32, ambiguous: u32) -> Result<PassRoom, Memory>
+    /// Room for passes over a heap of so many pages, with at most so many ambiguous roots. It is
+    /// refused only for want of memory.
+    pub fn reserve(alloc: Global, pages: u32, ambiguous: u32) -> Result<PassRoom, Memory>
         requires { pages ≤ MOST_PAGES }
         ensures { IfOk result (λ room. IsReservedFor room pages ambiguous) }
     {
-        Err(Memory)
+        Ok(PassRoom {
+            marks: Marks::new(alloc, pages)?,
+            hints: Hints::new(alloc, pages)?,
+            pins: PinSet::new(alloc, ambiguous)?,
+            held: HeldPages::new(alloc, pages)?,
+            notes: reserve_notes(alloc, pages, ambiguous)?,
+        })
     }
 
     /// The notes of the latest pass.
@@ -42,8 +58,24 @@ impl PassRoom {
     {
         &self.notes
     }
+}
 
-    pub(crate) fn no(&self) -> ! {
-        match self.never {}
-    }
+/// Notes with room for a move of every double word, for a pin for each ambiguous root, and for every
+/// page.
+fn reserve_notes(alloc: Global, pages: u32, ambiguous: u32) -> Result<PassNotes, Memory>
+    requires { pages ≤ MOST_PAGES }
+    ensures { IfOk result (λ notes. AreNotesFor notes pages ambiguous) }
+{
+    Ok(PassNotes {
+        generation: 0,
+        target: 0,
+        moves: Vec::with_capacity(alloc, (PAGE_WORDS / 2 * pages) as usize)?,
+        pins: Vec::with_capacity(alloc, ambiguous as usize)?,
+        culls: Vec::new(alloc),
+        breaks: Vec::new(alloc),
+        queued: Vec::new(alloc),
+        freed: Vec::with_capacity(alloc, pages as usize)?,
+        dead: 0,
+        kept: 0,
+    })
 }

@@ -1,18 +1,16 @@
 -- Which pages a pass holds: those of its generation in whose run something is pinned or stays. This project's own.
-use Rattle.std.specs.Prelude.{ℕ, ◌==◌, ◌/◌, ◌&&◌, ◌||◌, List, Bool, true, false, not, filter, length, map, if◌then◌else◌}
-use Rattle.std.specs.List.{list_any, range_with_len}
+use Rattle.std.specs.Prelude.{ℕ, ◌==◌, ◌&&◌, ◌||◌, List, Bool, false, not, filter, length, map, if◌then◌else◌}
+use Rattle.std.specs.List.{range_with_len}
 use Rattle.heap_terms.specs.declared.pages.Entry.{Entry}
 use Rattle.heap_terms.specs.declared.pages.Entry.TheVariants.{Free, Used}
 use Rattle.heap_terms.specs.Heap.{entry_at}
-use Rattle.heap_terms.specs.Layout.{page_words}
 use Rattle.heap_terms.specs.Placement.{scratch}
 use Rattle.copy_space.specs.declared.notes.Move.{Move}
+use Rattle.page_sweep.specs.Flags.{is_pinned_on, is_stay_on}
 
 -- whether a pinned object, or one that stays, lies on the first page of a run
 abbrev pub is_held : List ℕ → List Move → ℕ → Bool
-is_held pins moves first =
-    list_any (λ index. index / page_words == first) pins
-    || list_any (λ (m : Move). (m.old == m.new) && (m.old / page_words == first)) moves
+is_held pins moves first = is_pinned_on pins first || is_stay_on moves first
 
 -- whether the pass over a generation frees a page
 abbrev pub is_freed : List ℕ → List Move → ℕ → Entry → Bool

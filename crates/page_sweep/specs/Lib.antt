@@ -1,2 +1,5 @@
+pub mod Flags
 pub mod Held
 pub mod Swept
+pub mod Wiping
+pub mod Sweeping

@@ -1,0 +1,146 @@
+-- A state is told by its parts: the pages in use are those of the placement of what was moved.
+use Rattle.std.proofs.Common.{◌≡◌, ◌≢◌, ℕ, zero, suc, ◌+◌, ◌<◌, ◌≤◌, List, [], ◌∷◌, length, map, Option, Some, None, Bool, true, inl, inr, refl, sym, ◌∙◌, ap, subst, arith}
+use Rattle.std.proofs.lemmas.Bool.{cases_lt, cases_Bool, eq-eqb, eqb-true, false≢true}
+use Rattle.std.proofs.lemmas.List.{get_or_past}
+use Rattle.std.proofs.lemmas.List.Elements.{All-head, All-tail}
+use Rattle.std.specs.List.{range_with_len}
+use Rattle.std.specs.Prelude.{All, find, unwrap_or}
+use Rattle.heap_terms.specs.declared.cells.Value.{Value}
+use Rattle.heap_terms.specs.declared.cells.Value.TheVariants as values
+use Rattle.heap_terms.specs.declared.events.Placing.{Placing}
+use Rattle.heap_terms.specs.declared.pages.Entry.{Entry}
+use Rattle.heap_terms.specs.Heap.{NamedHeap, object_at}
+use Rattle.heap_terms.specs.Live.{is_live}
+use Rattle.heap_terms.specs.Objects.{Object}
+use Rattle.heap_terms.specs.Placement.{Placement, placement}
+use Rattle.heap_terms.specs.Slots.{Slot, Raw, Val, Side, Kept}
+use Rattle.heap_terms.specs.Sound.{IsSound}
+use Rattle.pass_laws.proofs.Spreading.{IsMoveOf}
+use Rattle.copy_space.specs.declared.marks.Mark.{Mark}
+use Rattle.copy_space.specs.declared.notes.Move.{Move}
+use Rattle.copy_space.specs.declared.notes.Pass.{Pass}
+use Rattle.copy_space.specs.declared.placing.PagesInUse.{PagesInUse}
+use Rattle.copy_space.specs.Midway.{IsPlacedSoFar, StandsMidway}
+use Rattle.copy_space.specs.Moved.{noted}
+use Rattle.copy_space.specs.Settled.{is_settled, settles, word_now, IsNewWord}
+use Rattle.copy_space.specs.State.{CopyState}
+use Rattle.copy_space.proofs.Names.{same_name}
+use Rattle.copy_space.proofs.Referents.{ms, its}
+use Rattle.trace_laws.specs.Rooted.{Rooted}
+use Rattle.trace_laws.specs.Traced.{IsTraced}
+use Rattle.trace_laws.proofs.Moves.{moves-named}
+use Rattle.collect_pass.specs.Tracing.{begins_at, name_at, moved_names, in_use_after, end_state}
+
+-- the only number of a range that passes a test is found
+find-only : (p : ℕ → Bool) (from n x : ℕ) → p x ≡ true → from ≤ x → x < from + n → ((y : ℕ) → p y ≡ true → y ≡ x) → find p (range_with_len from n) ≡ Some x
+find-only p from zero x passes low high only = absurd (omega (arith, low, high))
+find-only p from (suc n) x passes low high only = elim (cases_Bool (p from)) [
+  | inl here ↦ rw here (ap (λ (y : ℕ). Some y) (only from here))
+  | inr gone ↦ (let apart : from ≢ x = λ same. false≢true (sym gone ∙ ap p same ∙ passes) in rw gone (find-only p (from + 1) n x passes (omega arith) (omega arith) only))
+]
+
+name-found : (a : NamedHeap) → IsSound a → (x : ℕ) (o : Object) → object_at a.objects x ≡ Some o → name_at a o.place ≡ x
+name-found a sound x o e = ap (λ (q : Option ℕ). unwrap_or q 0) (find-only (λ name. begins_at o.place (object_at a.objects name)) 0 (length a.objects) x here (omega arith) inside only)
+  where
+    here : begins_at o.place (object_at a.objects x) ≡ true
+    here = ap (begins_at o.place) e ∙ eq-eqb o.place o.place refl
+
+    inside : x < 0 + length a.objects
+    inside = elim (cases_lt x (length a.objects)) [
+      | inl l ↦ omega arith
+      | inr past ↦ (let never : None ≡ Some o = sym (get_or_past a.objects x None past) ∙ e in cc)
+    ]
+
+    only : (y : ℕ) → begins_at o.place (object_at a.objects y) ≡ true → y ≡ x
+    only y begins = go (object_at a.objects y) refl
+      where
+        go : (q : Option Object) → object_at a.objects y ≡ q → y ≡ x
+        go None f = absurd (false≢true (ap (begins_at o.place) (sym f) ∙ begins))
+        go (Some q) f = same_name a sound y x q o f e (eqb-true q.place o.place (ap (begins_at o.place) (sym f) ∙ begins))
+
+names-found : (a : NamedHeap) → IsSound a → (xs : List Placing) → All (IsMoveOf a) xs → moved_names a (map noted xs) ≡ map (λ (m : Placing). m.name) xs
+names-found a sound [] all = refl
+names-found a sound (m ∷ xs) all =
+    let move = All-head (IsMoveOf a) m xs all in
+    let here : name_at a m.old ≡ m.name = ap (name_at a) move.2 ∙ name-found a sound m.name move.0 move.1 in
+    let rest : moved_names a (map noted xs) ≡ map (λ (m : Placing). m.name) xs = names-found a sound xs (All-tail (IsMoveOf a) m xs all) in
+    cc
+
+in-use-is : (a : NamedHeap) (s : CopyState) (p : IsPlacedSoFar a s) → s.in_use ≡ in_use_after a s.moves
+in-use-is a s p =
+    let order : moved_names a s.moves ≡ p.order = ap (moved_names a) (its a s p).moves_are ∙ names-found a p.sound (ms a s p) (its a s p).placing.olds ∙ moves-named a s p in
+    let using : Placement → PagesInUse = λ q. record { cons = q.cons_page; boxed = q.boxed_page; unboxed = q.unboxed_page } in
+    ap using p.placed.on_pages ∙ ap (λ (o : List ℕ). using (placement a o)) (sym order)
+
+-- the room for moves is of no account
+abbrev roomy : CopyState → CopyState
+roomy s = record s { room = length s.marks }
+
+new-word : (a : NamedHeap) (s : CopyState) (v : Value) (word : ℕ) → IsNewWord a s v word → IsNewWord a (roomy s) v word
+new-word a s v word n = record { settled = live-same v n.settled; is = n.is ∙ word-same v }
+  where
+    live-same : (v : Value) → is_live (is_settled a s) v ≡ true → is_live (is_settled a (roomy s)) v ≡ true
+    live-same (values.Fix n) e = refl
+    live-same values.Nil e = refl
+    live-same values.Unbound e = refl
+    live-same (values.Ref x) e = go (object_at a.objects x) e
+      where
+        go : (q : Option Object) → settles s q ≡ true → settles (roomy s) q ≡ true
+        go None f = f
+        go (Some o) f = f
+
+    word-same : (v : Value) → word_now a s v ≡ word_now a (roomy s) v
+    word-same v = refl
+
+stands-roomy : (a : NamedHeap) (s : CopyState) (slot : Slot) (word : ℕ) → StandsMidway a s slot word → StandsMidway a (roomy s) slot word
+stands-roomy a s (Raw w) word e = e
+stands-roomy a s (Val v) word (inl before) = inl before
+stands-roomy a s (Val v) word (inr now) = inr (new-word a s v word now)
+stands-roomy a s (Side v) word e = e
+stands-roomy a s Kept word e = tt
+
+with-room : (h : Rooted) (s : CopyState) (exact : List ℕ) → IsTraced h s exact → IsTraced h (record s { room = length s.marks }) exact
+with-room h s exact t = record {
+  midway = record {
+    places = record {
+      sound = t.midway.places.sound;
+      generation = t.midway.places.generation;
+      most = t.midway.places.most;
+      long = t.midway.places.long;
+      marks_long = t.midway.places.marks_long;
+      room = omega arith;
+      order = t.midway.places.order;
+      once = t.midway.places.once;
+      met = t.midway.places.met;
+      placed = record { on_pages = t.midway.places.placed.on_pages; moves = t.midway.places.placed.moves };
+      pins = t.midway.places.pins;
+      unpinned = t.midway.places.unpinned;
+      marks = t.midway.places.marks;
+      counted = t.midway.places.counted;
+      forwards = t.midway.places.forwards;
+      owned = t.midway.places.owned;
+      fillers = t.midway.places.fillers;
+    };
+    spelled = record {
+      slots = λ name o e i slot f. stands-roomy h.heap s slot _ (t.midway.spelled.slots name o e i slot f);
+      kept = t.midway.spelled.kept;
+    };
+  };
+  pins = t.pins;
+  scanned = λ name o e settled i v f. new-word h.heap s v _ (t.scanned name o e (settled-back (object_at h.heap.objects name) settled) i v f);
+  exact_now = t.exact_now;
+  exact_live = t.exact_live;
+  least = t.least;
+}
+  where
+    settled-back : (q : Option Object) → settles (roomy s) q ≡ true → settles s q ≡ true
+    settled-back None f = f
+    settled-back (Some o) f = f
+
+pub traced-end : (h : Rooted) (s : CopyState) (exact words : List ℕ) (pages : List Entry) (marks : List Mark) (pins : List ℕ) (pass : Pass) (moves : List Move) → IsTraced h s exact →
+    words ≡ s.words → pages ≡ s.pages → marks ≡ s.marks → pins ≡ s.pins → pass ≡ s.pass → moves ≡ s.moves → IsTraced h (end_state h.heap words pages marks pins pass moves) exact
+unfolding end_state
+traced-end h s exact words pages marks pins pass moves t words_are pages_are marks_are pins_are pass_is moves_are =
+    let use_is : s.in_use ≡ in_use_after h.heap moves = in-use-is h.heap s t.midway.places ∙ ap (in_use_after h.heap) (sym moves_are) in
+    let same : record s { room = length s.marks } ≡ end_state h.heap words pages marks pins pass moves = cc in
+    subst (λ (u : CopyState). IsTraced h u exact) same (with-room h s exact t)
