@@ -30,4 +30,5 @@ pub mod Refusing
 pub mod Starting
 pub mod Ending
 pub mod Leasing
+pub mod Relabelling
 pub mod PageReading
