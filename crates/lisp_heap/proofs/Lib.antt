@@ -31,4 +31,5 @@ pub mod Starting
 pub mod Ending
 pub mod Leasing
 pub mod Relabelling
+pub mod StrongHeaps
 pub mod PageReading
