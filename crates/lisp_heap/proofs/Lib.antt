@@ -32,4 +32,8 @@ pub mod Ending
 pub mod Leasing
 pub mod Relabelling
 pub mod StrongHeaps
+pub mod Recorded
+pub mod FlatCells
+pub mod ExactRoots
+pub mod AmbiguousRoots
 pub mod PageReading
