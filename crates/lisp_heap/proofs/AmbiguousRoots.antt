@@ -44,10 +44,10 @@ swap_or false false true false true f = refl
 swap_or false false true false false f = refl
 swap_or false false false false e f = refl
 
-abbrev stack_of : Thread → List Value
+abbrev pub stack_of : Thread → List Value
 stack_of th = th.stack
 
-abbrev raws_in : Thread → List ℕ
+abbrev pub raws_in : Thread → List ℕ
 raws_in th = th.raws
 
 three : {X : Type 0} (p : X → Bool) (xs ys zs : List X) → list_any p (xs ++ ys ++ zs) ≡ (list_any p xs || (list_any p ys || list_any p zs))

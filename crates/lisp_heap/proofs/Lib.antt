@@ -36,4 +36,6 @@ pub mod Recorded
 pub mod FlatCells
 pub mod ExactRoots
 pub mod AmbiguousRoots
+pub mod Pinned
+pub mod Closing
 pub mod PageReading
