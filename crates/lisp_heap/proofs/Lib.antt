@@ -38,4 +38,5 @@ pub mod ExactRoots
 pub mod AmbiguousRoots
 pub mod Pinned
 pub mod Closing
+pub mod AfterCollection
 pub mod PageReading
