@@ -39,4 +39,6 @@ pub mod AmbiguousRoots
 pub mod Pinned
 pub mod Closing
 pub mod AfterCollection
+pub mod Letting
+pub mod MakingPass
 pub mod PageReading

@@ -13,6 +13,7 @@ mod committing;
 mod field_commands;
 mod inhibit_commands;
 mod new_world;
+mod one_pass;
 mod parcels;
 mod pin_commands;
 mod pins;

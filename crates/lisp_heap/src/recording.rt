@@ -10,6 +10,7 @@ use std::alloc::Global;
 use word_space::Prefilled;
 
 /// Room for the lists of the record of a pass, which are empty so far.
+#[derive(Drop)]
 pub struct RecordRoom {
     alloc: Global,
     pub(crate) moves: Vec<Placing>,
