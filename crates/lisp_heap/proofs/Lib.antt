@@ -41,4 +41,5 @@ pub mod Closing
 pub mod AfterCollection
 pub mod Letting
 pub mod MakingPass
+pub mod CollectingWith
 pub mod PageReading

@@ -9,7 +9,7 @@ pub loop-parcel-preserved : goal.loop-parcel-preserved
 loop-parcel-preserved c =
     let i = c.loop-parcel.parcel-index in
     let there : i < length c.loop-parcel.parcels = omega arith in
-    let x = get_or c.loop-parcel.parcels i (empty_parcel 0) in
+    let x = get_or c.loop-parcel.parcels i c.parcel-item.result in
     ap (set c.loop-parcel.parcels i) c.close_all.ensures
     ∙ map_over_more (λ (q : ParcelView). empty_parcel q.owner) c.args.parcels.now c.loop-parcel.parcels i x c.loop-parcel-test.true c.loop-parcel.invariant
-    (get_or_default c.loop-parcel.parcels i (empty_parcel 0) x there)
+    (get_or_default c.loop-parcel.parcels i c.parcel-item.result x there)

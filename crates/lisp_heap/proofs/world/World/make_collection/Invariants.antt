@@ -3,4 +3,4 @@ use Rattle.lisp_heap.specs.Rooting.{rooted_in}
 use Rattle.lisp_heap.proofs.world.World.make_collection.Given as goal
 
 abbrev pub ghost-collect_with : goal.ghost-collect_with
-ghost-collect_with a = rooted_in a.self
+ghost-collect_with a = rooted_in a.self.now
