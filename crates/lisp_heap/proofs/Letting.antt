@@ -5,7 +5,7 @@ use Rattle.std.proofs.lemmas.List.{get_or_default, get_or_past, length-map, get_
 use Rattle.std.proofs.lemmas.List.Elements.{All-from_get_or}
 use Rattle.std.proofs.lemmas.List.FromFn.{length-range_with_len}
 use Rattle.std.specs.List.{range_with_len}
-use Rattle.std.specs.Prelude.{All, ◌==◌, not, slice_index_or}
+use Rattle.std.specs.Prelude.{All, ◌==◌, not, slice_index_or, Result, Ok, Err, is_ok, OnOk}
 use Rattle.heap_terms.specs.Heap.{NamedHeap, Thread, thread_at, ended_thread, fresh_thread}
 use Rattle.lisp_heap.specs.Agreement.{Agrees}
 use Rattle.lisp_heap.specs.ParcelView.{ParcelView, empty_parcel}
@@ -51,3 +51,8 @@ empty_ready a parcels n owners agree = record {
       (let inside : i < length parcels = omega (arith, l, length-map parcels (λ (q : ParcelView). empty_parcel q.owner)) in
       subst (Agrees a) (sym (get_or-map (λ (q : ParcelView). empty_parcel q.owner) parcels i (empty_parcel 0) (empty_parcel 0) inside)) (agree (get_or parcels i (empty_parcel 0)).owner)));
 }
+
+-- what holds where a result is right
+pub on_ok : {A E : Type 0} (P : Type 0) (r : Result A E) → is_ok r ≡ true → OnOk r P → P
+on_ok P (Ok x) e h = h
+on_ok P (Err x) e h = cc

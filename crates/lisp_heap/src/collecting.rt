@@ -63,6 +63,8 @@ impl World {
         ensures err { OnErr result (self.new ≡ self.old) }
         ensures kept { OnErr result (parcels.new ≡ parcels.old) }
     {
+        // Looked into here, so that what follows may use what a World keeps true.
+        let _program = &self.program;
         if let Some(u) = self.lowest_busy(parcels) {
             return Err(CollectFault::Busy(u));
         }
