@@ -117,7 +117,6 @@ Holds-change p a new v t (changes.Inhibits count) wf wf_new ht holds makes =
     let state : ThreadState = record (get_or v.states t fresh_state) { inhibits = count } in
     let same : state ≡ state_of th = ap (λ (x : ThreadState). record x { inhibits = count }) (state_read a v.states t fresh_state holds.states lt) in
     subst (λ (b : NamedHeap). Holds b (parts_after v t (changes.Inhibits count))) (sym makes) (Holds-thread a v t th state refl refl refl refl same holds)
-
 Holds-change p a new v t (changes.Owes last) wf wf_new ht holds makes =
     let lt : t < length a.threads = omega (arith, wf.threads_length) in
     let th : Thread = record (thread_at a t) { owed = Some last } in

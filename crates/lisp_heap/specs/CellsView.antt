@@ -60,6 +60,10 @@ with_raw_word v t r word = record v { raws = slice_set v.raws (raw_spot t r.0) w
 abbrev pub cleared : ℕ → List ℕ → ℕ → List ℕ
 cleared each words t = take (each * t) words ++ replicate each 0 ++ drop (each * t + each) words
 
+-- the cells after words were put into all cells b and, behind them, the cells g
+abbrev pub with_exact_words : CellsView → List ℕ → CellsView
+with_exact_words v words = record v { exact = take (length v.exact) words; shared = drop (length v.exact) words }
+
 -- thread t's cells are there, and the cells g
 pub record HasCells (v : CellsView) (t : ℕ) : Type 0 where
   pub stack : cells_each * t + cells_each ≤ length v.stack

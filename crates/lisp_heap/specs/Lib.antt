@@ -13,4 +13,8 @@ pub mod Wishes
 pub mod Commits
 pub mod LivingWords
 pub mod Leases
+pub mod Ready
+pub mod Rooting
+pub mod Recording
+pub mod Collecting
 pub mod ParcelSound

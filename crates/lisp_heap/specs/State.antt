@@ -68,6 +68,10 @@ with_inhibits states t count = slice_set states t (record (slice_index_or states
 abbrev pub with_owed : List ThreadState → ℕ → Option ℕ → List ThreadState
 with_owed states t owed = slice_set states t (record (slice_index_or states t fresh_state) { owed = owed })
 
+-- the state of a thread whose regions were closed
+abbrev pub state_closed : ThreadState → ThreadState
+state_closed s = record s { cons_page = None; boxed_page = None; unboxed_page = None; open_run = None }
+
 -- the states after one thread has ended
 abbrev pub with_ended : List ThreadState → ℕ → List ThreadState
 with_ended states t = slice_set states t (record fresh_state { done = (slice_index_or states t fresh_state).done; ended = true })

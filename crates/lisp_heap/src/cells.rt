@@ -3,7 +3,7 @@
 ghost use Rattle.std.specs.Prelude.{◌≡◌, ◌+◌, ◌*◌, ◌<◌, ◌≤◌, ◌^◌, ℕ, length, replicate, IfOk, slice_index, slice_set};
 ghost use Rattle.heap_terms.specs.declared.limits.TheConstants.{MOST_THREADS};
 ghost use Rattle.heap_terms.specs.Valid.{IsCell, IsRaw};
-ghost use Rattle.lisp_heap.specs.CellsView.{HasCells, cell_word, cleared, raw_word, with_cell_word, with_cleared, with_raw_word, zero_cells};
+ghost use Rattle.lisp_heap.specs.CellsView.{HasCells, cell_word, cleared, raw_word, with_cell_word, with_cleared, with_exact_words, with_raw_word, zero_cells};
 
 use heap_terms::{Cell, Memory, Raw};
 use std::alloc::Global;
@@ -50,6 +50,14 @@ fn clear<const N: usize>(words: &mut [u64], from: usize)
     ensures len { length words.new ≡ length words.old }
 {
     words[from..from + N].copy_from_slice(&[0; N]);
+}
+
+/// Puts words in the place of just as many others.
+fn overwrite(words: &mut [u64], from: &[u64])
+    requires { length words.old ≡ length from.now }
+    ensures { words.new ≡ from.now }
+{
+    words.copy_from_slice(from);
 }
 
 impl CellWords {
@@ -112,6 +120,44 @@ impl CellWords {
         ensures { self.new ≡ with_raw_word self.old t r word }
     {
         self.raws[RAW_CELLS * t + r.0 as usize] = word;
+    }
+
+    /// The words in the cells s of all threads.
+    pub fn stack(&self) -> &[u64]
+        ensures { result.now ≡ self.now.stack }
+    {
+        self.stack.as_slice()
+    }
+
+    /// The words in the cells b of all threads.
+    pub fn exact(&self) -> &[u64]
+        ensures { result.now ≡ self.now.exact }
+    {
+        self.exact.as_slice()
+    }
+
+    /// The words in the raw cells of all threads.
+    pub fn raws(&self) -> &[u64]
+        ensures { result.now ≡ self.now.raws }
+    {
+        self.raws.as_slice()
+    }
+
+    /// The words in the cells g.
+    pub fn shared(&self) -> &[u64]
+        ensures { result.now ≡ self.now.shared }
+    {
+        self.shared.as_slice()
+    }
+
+    /// Puts words into all cells b, and behind them into the cells g.
+    pub fn rewrite(&mut self, words: &[u64])
+        requires { length words.now ≡ length self.old.exact + length self.old.shared }
+        ensures { self.new ≡ with_exact_words self.old words.now }
+    {
+        let (exact, shared) = words.split_at(self.exact.len());
+        overwrite(self.exact.as_mut_slice(), exact);
+        overwrite(self.shared.as_mut_slice(), shared);
     }
 
     /// Clears thread t's own cells.

@@ -38,7 +38,8 @@ impl PinStack {
 
     /// The pinned words.
     fn as_slice(&self) -> &[u64]
-        ensures { result.now ≡ self.now }
+        ensures words { result.now ≡ self.now }
+        ensures few { length result.now ≤ MOST_PINS }
     {
         self.words.as_slice()
     }
@@ -85,10 +86,18 @@ impl Pins {
         Ok(Pins { stacks })
     }
 
+    /// How many threads there are.
+    pub fn len(&self) -> usize
+        ensures { result ≡ length self.now }
+    {
+        self.stacks.len()
+    }
+
     /// The pinned words of one thread, the latest last.
     pub fn at(&self, t: usize) -> &[u64]
         requires { t < length self.now }
-        ensures { result.now ≡ slice_index_or self.now t [] }
+        ensures words { result.now ≡ slice_index_or self.now t [] }
+        ensures few { length result.now ≤ MOST_PINS }
     {
         self.stacks[t].as_slice()
     }

@@ -1,8 +1,8 @@
 //! What the World keeps of each thread beside its cells.
 
-ghost use Rattle.std.specs.Prelude.{◌≡◌, ◌+◌, ◌<◌, ◌^◌, length, slice_get, slice_index_or, replicate, IfOk};
+ghost use Rattle.std.specs.Prelude.{◌≡◌, ◌+◌, ◌<◌, ◌^◌, length, map, slice_get, slice_index_or, replicate, IfOk};
 ghost use Rattle.std.specs.Option.{ForSome};
-ghost use Rattle.lisp_heap.specs.State.{advanced, fresh_state, state_due, state_page, state_with_page, state_with_region, with_ended, with_inhibits, with_owed, with_placed, with_region_open};
+ghost use Rattle.lisp_heap.specs.State.{advanced, fresh_state, state_closed, state_due, state_page, state_with_page, state_with_region, with_ended, with_inhibits, with_owed, with_placed, with_region_open};
 
 use heap_terms::{Memory, PAGE_WORDS, PageType};
 use std::alloc::Global;
@@ -104,6 +104,19 @@ impl ThreadState {
         }
     }
 
+    /// The state without open regions.
+    fn closed(&self) -> ThreadState
+        ensures { result ≡ state_closed self.now }
+    {
+        ThreadState {
+            cons_page: None,
+            boxed_page: None,
+            unboxed_page: None,
+            open_run: None,
+            ..*self
+        }
+    }
+
     /// The state with a run of pages of a type open: one page is its open page of that type, a
     /// longer run its open run.
     fn with_region(self, ty: PageType, first: u32, pages: u32) -> ThreadState
@@ -117,6 +130,15 @@ impl ThreadState {
                 ..self
             }
         }
+    }
+}
+
+/// Closes the regions of all states.
+fn close_all(states: &mut [ThreadState])
+    ensures { states.new ≡ map state_closed states.old }
+{
+    for state in states.iter_mut() {
+        *state = state.closed();
     }
 }
 
@@ -201,6 +223,13 @@ impl States {
         ensures { self.new ≡ with_owed self.old t owed }
     {
         self.states[t].owed = owed;
+    }
+
+    /// No thread has an open region from now on.
+    pub fn close_regions(&mut self)
+        ensures { self.new ≡ map state_closed self.old }
+    {
+        close_all(self.states.as_mut_slice());
     }
 
     /// One thread has ended.

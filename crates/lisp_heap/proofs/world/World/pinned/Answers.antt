@@ -20,8 +20,8 @@ pub returns-then-pins : goal.returns-then-pins
 returns-then-pins c =
     subst (λ (o : Plan). IsPlan (heap_of c.args.self.now) c.args.t (commands.Pin c.args.c) o.answer o.change) (sym c.refused.ensures)
     (pinned_none (heap_of c.args.self.now) c.args.t c.args.c c.at-pins.result.now
-    (pins_in c.self.inside c.args.self.now c.self.invariant c.self.view_is c.args.t c.at-pins.result.now c.requires.thread c.at-pins.ensures) (omega arith))
+    (pins_in c.self.inside c.args.self.now c.self.invariant c.self.view_is c.args.t c.at-pins.result.now c.requires.thread c.at-pins.ensures.words) (omega arith))
 
 pub returns : goal.returns
 returns c = pinned_is (heap_of c.args.self.now) c.args.t c.args.c c.cell.result c.at-pins.result.now
-    (pins_in c.self.inside c.args.self.now c.self.invariant c.self.view_is c.args.t c.at-pins.result.now c.requires.thread c.at-pins.ensures) (omega arith) c.cell.ensures
+    (pins_in c.self.inside c.args.self.now c.self.invariant c.self.view_is c.args.t c.at-pins.result.now c.requires.thread c.at-pins.ensures.words) (omega arith) c.cell.ensures

@@ -21,8 +21,8 @@ pub returns-then-is_empty : goal.returns-then-is_empty
 returns-then-is_empty c =
     subst (λ (o : Plan). IsPlan (heap_of c.args.self.now) c.args.t commands.Unpin o.answer o.change) (sym c.refused.ensures)
     (unpinned_none (heap_of c.args.self.now) c.args.t c.at-pins.result.now
-    (pins_in c.self.inside c.args.self.now c.self.invariant c.self.view_is c.args.t c.at-pins.result.now c.requires c.at-pins.ensures) (eqb-true (length c.at-pins.result.now) 0 (sym c.if-is_empty.ensures)))
+    (pins_in c.self.inside c.args.self.now c.self.invariant c.self.view_is c.args.t c.at-pins.result.now c.requires c.at-pins.ensures.words) (eqb-true (length c.at-pins.result.now) 0 (sym c.if-is_empty.ensures)))
 
 pub returns : goal.returns
 returns c = unpinned_is (heap_of c.args.self.now) c.args.t c.at-pins.result.now
-    (pins_in c.self.inside c.args.self.now c.self.invariant c.self.view_is c.args.t c.at-pins.result.now c.requires c.at-pins.ensures) (eqb-false (length c.at-pins.result.now) 0 (sym c.if-is_empty.ensures))
+    (pins_in c.self.inside c.args.self.now c.self.invariant c.self.view_is c.args.t c.at-pins.result.now c.requires c.at-pins.ensures.words) (eqb-false (length c.at-pins.result.now) 0 (sym c.if-is_empty.ensures))

@@ -1,0 +1,118 @@
+//! The record of a pass, in names, and the labels after it.
+
+ghost use Rattle.std.specs.Prelude.{◌≡◌, ◌+◌, ◌/◌, ◌<◌, ◌≤◌, ◌++◌, length, map, All, IfOk, IfSome, vec_len, vec_capacity};
+ghost use Rattle.copy_space.specs.declared.notes.Move.{Move};
+ghost use Rattle.lisp_heap.specs.Recording.{CanRelabel, HasRoom, HaveLabels, labelled_by, new_place, pin_by, placing_by, recorded, relabelled};
+
+use copy_space::{Move, PassNotes};
+use heap_terms::{Memory, PassRecord, PinAt, Placing, Seq};
+use std::alloc::Global;
+use word_space::Prefilled;
+
+/// Room for the lists of the record of a pass, which are empty so far.
+#[derive(Drop)]
+pub struct RecordRoom {
+    alloc: Global,
+    pub(crate) moves: Vec<Placing>,
+    pub(crate) pins: Vec<PinAt>,
+    pub(crate) freed: Vec<u32>,
+}
+
+impl RecordRoom {
+    /// Room for so many moves, pins and freed pages.
+    pub fn reserve(alloc: Global, moves: u32, pins: usize, freed: u32) -> Result<RecordRoom, Memory>
+        ensures { IfOk result (λ room. HasRoom room moves pins freed) }
+    {
+        Ok(RecordRoom {
+            alloc,
+            moves: Vec::with_capacity(alloc, moves as usize)?,
+            pins: Vec::with_capacity(alloc, pins)?,
+            freed: Vec::with_capacity(alloc, freed as usize)?,
+        })
+    }
+}
+
+/// Where a move goes; a stay goes nowhere.
+fn new_place(m: &Move) -> Option<u32>
+    ensures { result ≡ new_place m.now }
+{
+    if m.new == m.old { None } else { Some(m.new) }
+}
+
+/// Adds moves with the names of their objects.
+fn add_moves(moves: &[Move], labels: &Prefilled<u32>, out: &mut Vec<Placing>)
+    requires labels { All (λ (m : Move). m.old / 2 < length labels.now) moves.now }
+    requires room { vec_len out.old + length moves.now ≤ vec_capacity out.old }
+    ensures { out.new.items ≡ out.old.items ++ map (placing_by labels.now) moves.now }
+{
+    for m in moves {
+        out.push_reserved(Placing {
+            name: labels.at((m.old / 2) as usize),
+            old: m.old,
+            new: new_place(m),
+        });
+    }
+}
+
+/// Adds pinned objects with their names.
+fn add_pinned(indices: &[u32], labels: &Prefilled<u32>, out: &mut Vec<PinAt>)
+    requires labels { All (λ index. index / 2 < length labels.now) indices.now }
+    requires room { vec_len out.old + length indices.now ≤ vec_capacity out.old }
+    ensures { out.new.items ≡ out.old.items ++ map (pin_by labels.now) indices.now }
+{
+    for index in indices {
+        out.push_reserved(PinAt {
+            name: labels.at((*index / 2) as usize),
+            index: *index,
+        });
+    }
+}
+
+/// What the notes of a pass tell, in names, by the labels before the pass.
+pub fn write_record(notes: &PassNotes, labels: &Prefilled<u32>, room: RecordRoom) -> PassRecord
+    requires labels { HaveLabels labels.now notes.now }
+    requires room { HasRoom room (length notes.now.moves.items) (length notes.now.pins.items) (length notes.now.freed.items) }
+    ensures { result ≡ recorded labels.now notes.now }
+{
+    let RecordRoom {
+        alloc,
+        mut moves,
+        mut pins,
+        mut freed,
+    } = room;
+    add_moves(notes.moves.as_slice(), labels, &mut moves);
+    add_pinned(notes.pins.as_slice(), labels, &mut pins);
+    freed.extend_from_slice(notes.freed.as_slice()).unwrap();
+    PassRecord {
+        generation: notes.generation,
+        target: notes.target,
+        moves: Seq::from_vec(moves),
+        pins: Seq::from_vec(pins),
+        culls: Seq::new(alloc),
+        breaks: Seq::new(alloc),
+        queued: Seq::new(alloc),
+        freed: Seq::from_vec(freed),
+        dead: notes.dead,
+        kept: notes.kept,
+    }
+}
+
+/// Puts the name of an object at its new place, if it has one.
+fn relabel_one(labels: &mut Prefilled<u32>, m: Placing)
+    requires { IfSome m.new (λ index. index / 2 < length labels.old) }
+    ensures { labels.new ≡ labelled_by labels.old m }
+{
+    if let Some(index) = m.new {
+        labels.set((index / 2) as usize, m.name);
+    }
+}
+
+/// Puts the name of each object that moved at its new place.
+pub fn relabel(labels: &mut Prefilled<u32>, moves: &[Placing])
+    requires { CanRelabel labels.old moves.now }
+    ensures { labels.new ≡ relabelled labels.old moves.now }
+{
+    for m in moves {
+        relabel_one(labels, *m);
+    }
+}
