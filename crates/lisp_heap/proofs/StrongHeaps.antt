@@ -27,6 +27,7 @@ use Rattle.heap_terms.specs.Collections.{closed, after_pass_of, after_passes, co
 use Rattle.heap_terms.specs.Heap.{NamedHeap, Thread, start, thread_at, with_thread, ended_thread, object_at, zero_value}
 use Rattle.heap_terms.specs.Histories.{IsNext, IsAnswer, after, after_command, advance, command_at, next, Lawful, LawfulFrom, replay, replay_from}
 use Rattle.heap_terms.specs.Objects.{Object, Contents, ConsOf, VectorOf, InstanceOf, ClosureOf, WordsOf, WeakTo, TableOf}
+use Rattle.heap_terms.specs.PageViews.{page_view}
 use Rattle.heap_terms.specs.Outcome.{Outcome, answering, done, refused, needing, indexing}
 use Rattle.heap_terms.specs.Outcomes.{outcome_of}
 use Rattle.heap_terms.specs.Outcomes.PinCommands.{with_pins}
@@ -161,6 +162,7 @@ module _ (a : NamedHeap) (t : ℕ) (h : IsStrongHeap a) where
   strong_outcome commands.Allow simple =
       by_test ((thread_at a t).inhibits == 0) (refused Nothing a) (done (with_thread a t (record (thread_at a t) { inhibits = (thread_at a t).inhibits - 1 })))
       h (strong_thread a t _ h)
+  strong_outcome (commands.ShowPage q) simple = by_test (nat_lt q (length a.pages)) (answering (answers.Page (page_view a q)) a) (refused OutOfRange a) h h
   strong_outcome _ simple = absurd simple
 
 -- ---- commits
