@@ -1,4 +1,3 @@
 -- Programs that a script can be read as.
 pub mod BuiltCommands
 pub mod Limits
-pub mod OweNothing

@@ -1,4 +1,5 @@
 -- How many objects there are, and the numbers in events.
 pub mod ObjectCount
+pub mod PlainPages
 pub mod PlainEvents
 pub mod InhibitsFew

@@ -1,13 +1,12 @@
 -- Laws of the definitions, each for every program: what a reader may rely on beside the definitions themselves.
-use Rattle.std.specs.Prelude.{◌≡◌, ◌↔◌, ℕ, ◌+◌, ◌<◌, ◌≤◌, List, [], ◌∷◌, ◌++◌, length, map, All, IfSome, false}
+use Rattle.std.specs.Prelude.{◌≡◌, ◌↔◌, ℕ, ◌+◌, ◌<◌, ◌≤◌, List, [], ◌∷◌, ◌++◌, length, map, All, IfSome, None, false}
 use Rattle.heap_terms.specs.declared.events.Event.{Event}
 use Rattle.heap_terms.specs.declared.kinds.Kind.TheVariants as kinds
-use Rattle.heap_terms.specs.declared.pages.Next.TheVariants as nexts
 use Rattle.heap_terms.specs.declared.programs.Program.{Program}
 use Rattle.heap_terms.specs.declared.limits.TheConstants.{MOST_COMMANDS}
 use Rattle.heap_terms.specs.Complete.{IsComplete}
 use Rattle.heap_terms.specs.Heap.{NamedHeap, object_at, thread_at}
-use Rattle.heap_terms.specs.Histories.{IsNext, after, next, Lawful, LawfulFrom, replay, replay_from, thread_of, script_of}
+use Rattle.heap_terms.specs.Histories.{IsNext, after, due, Lawful, LawfulFrom, replay, replay_from, thread_of, script_of}
 use Rattle.heap_laws.specs.Remaining.{all_left, events_at_most, most_events}
 use Rattle.heap_terms.specs.Objects.{kind_of}
 use Rattle.heap_laws.specs.Order.{commands_of, events_of, EndsOnce, orders_of}
@@ -38,10 +37,6 @@ HeapsAreWellFormed = (p : Program) (h : List Event) → IsLimited p → Lawful p
 abbrev pub HeapsAreSmall : Type 0
 HeapsAreSmall = (p : Program) (h : List Event) → IsValid p → Lawful p h → length (replay p h).objects ≤ MOST_COMMANDS
 
--- until collections are built a collection is never what a thread does next
-abbrev pub NobodyCollects : Type 0
-NobodyCollects = (p : Program) (h : List Event) (t last : ℕ) → IsValid p → Lawful p h → ¬ (next p (replay p h) t ≡ nexts.Collect last)
-
 -- with each event, collections too, there is less left, so that every history ends: it has at most so many events as follow
 -- from its program, and never more than 41,168
 abbrev pub HistoriesEnd : Type 0
@@ -50,10 +45,10 @@ HistoriesEnd =
     × ((p : Program) (h : List Event) → IsLimited p → Lawful p h → length h ≤ events_at_most p)
     × ((p : Program) → IsValid p → events_at_most p ≤ most_events)
 
--- until collections are built each thread that has not ended has an event that may come next
+-- each thread that has not ended, and for which no collection is due, has an event that may come next
 abbrev pub ThreadsGoOn : Type 0
-ThreadsGoOn = (p : Program) (h : List Event) (t : ℕ) → IsValid p → Lawful p h → (thread_at (replay p h) t).ended ≡ false →
-    (e : Event) × (thread_of e ≡ t) × IsNext p (replay p h) e
+ThreadsGoOn = (p : Program) (a : NamedHeap) (t : ℕ) → (thread_at a t).ended ≡ false → due (thread_at a t) ≡ None →
+    (e : Event) × (thread_of e ≡ t) × IsNext p a e
 
 -- while some thread has not ended some event may come next, in every well-formed heap: a collection that is due waits only
 -- for threads that inhibit, and those go on
@@ -80,9 +75,8 @@ abbrev pub EventsArePlain : Type 0
 EventsArePlain = (p : Program) (h : List Event) → IsValid p → Lawful p h → All IsPlain h
 
 -- What a thread may do next is one event, but for the orders in which a collection takes its names: so the order of the
--- threads and those orders determine a history; and until collections are built the order of the threads does.
+-- threads and those orders determine a history.
 abbrev pub OrderDetermines : Type 0
 OrderDetermines =
     ((p : Program) (a : NamedHeap) (e f : Event) → IsNext p a e → IsNext p a f → thread_of e ≡ thread_of f → orders_of e ≡ orders_of f → e ≡ f)
     × ((p : Program) (h g : List Event) → Lawful p h → Lawful p g → map thread_of h ≡ map thread_of g → map orders_of h ≡ map orders_of g → h ≡ g)
-    × ((p : Program) (h g : List Event) → IsValid p → Lawful p h → Lawful p g → map thread_of h ≡ map thread_of g → h ≡ g)

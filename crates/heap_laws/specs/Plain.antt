@@ -1,12 +1,16 @@
 -- What stands in the events of a valid program: the commands that are built, and numbers in their ranges.
-use Rattle.std.specs.Prelude.{◌<◌, ◌≤◌, ◌^◌, All}
+use Rattle.std.specs.Prelude.{◌≡◌, ℕ, ◌<◌, ◌≤◌, ◌^◌, All, Option, Some, None}
+use Rattle.std.specs.List.{AllByRecursion}
 use Rattle.heap_terms.specs.declared.answers.Answer.{Answer}
 use Rattle.heap_terms.specs.declared.answers.Answer.TheVariants.{Done, Val, Word, Yes, No, Absent, Live, Broken, Count, Ran, Page, Stat, Placed, Refused}
+use Rattle.heap_terms.specs.declared.answers.Item.{Item}
+use Rattle.heap_terms.specs.declared.answers.PageView.{PageView}
+use Rattle.heap_terms.specs.declared.answers.PageView.TheVariants as views
 use Rattle.heap_terms.specs.declared.cells.Value.{Value}
 use Rattle.heap_terms.specs.declared.cells.Value.TheVariants.{Fix, Nil, Unbound, Ref}
 use Rattle.heap_terms.specs.declared.events.Event.{Event}
 use Rattle.heap_terms.specs.declared.events.Event.TheVariants.{Did, Opened, Collected, Ended}
-use Rattle.heap_terms.specs.declared.limits.TheConstants.{MOST_COMMANDS, MOST_PAGES, MOST_THREADS, MOST_WORDS, OLDEST_COLLECTED}
+use Rattle.heap_terms.specs.declared.limits.TheConstants.{MOST_COMMANDS, MOST_PAGES, MOST_THREADS, MOST_WORDS, OLDEST_COLLECTED, PAGE_WORDS}
 use Rattle.pass_laws.specs.PlainRecords.{IsPlainRecord}
 use Rattle.heap_terms.specs.Valid.{IsFixnum, IsCommand}
 
@@ -16,6 +20,20 @@ IsPlainValue (Fix n) = IsFixnum n
 IsPlainValue Nil = Unit {0}
 IsPlainValue Unbound = ⊥
 IsPlainValue (Ref name) = name < MOST_COMMANDS
+
+-- an item of a page: an object has no count, and words of no object are one at least
+abbrev pub IsPlainItemOf : Option ℕ → ℕ → Type 0
+IsPlainItemOf None count = (1 ≤ count) × (count < 2 ^ 32)
+IsPlainItemOf (Some name) count = (name < MOST_COMMANDS) × (count ≡ 0)
+
+abbrev pub IsPlainItem : Item → Type 0
+IsPlainItem item = IsPlainItemOf item.name item.count × (item.index < MOST_WORDS)
+
+-- a page as it is shown, of a generation that is collected
+abbrev pub IsPlainView : PageView → Type 0
+IsPlainView views.Free = Unit {0}
+IsPlainView (views.Small ty g fill items) = (g ≤ OLDEST_COLLECTED) × (fill ≤ PAGE_WORDS) × AllByRecursion IsPlainItem items
+IsPlainView (views.Large ty g pages name index) = (g ≤ OLDEST_COLLECTED) × (pages ≤ MOST_PAGES) × (name < MOST_COMMANDS) × (index < MOST_WORDS)
 
 -- the answers of the commands that are built; a raw word has 64 bits, and an index is that of one of at most 1,024 pages' words
 abbrev pub IsPlainAnswer : Answer → Type 0
@@ -29,7 +47,7 @@ IsPlainAnswer (Live v) = ⊥
 IsPlainAnswer Broken = ⊥
 IsPlainAnswer (Count n) = ⊥
 IsPlainAnswer (Ran ids) = ⊥
-IsPlainAnswer (Page view) = ⊥
+IsPlainAnswer (Page view) = IsPlainView view
 IsPlainAnswer (Stat allocated cum num) = ⊥
 IsPlainAnswer (Placed name index) = (name < MOST_COMMANDS) × (index < MOST_WORDS)
 IsPlainAnswer (Refused why) = Unit {0}

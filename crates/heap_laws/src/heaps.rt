@@ -1,6 +1,6 @@
 //! Laws of the heaps that lawful histories leave.
 
-ghost use Rattle.heap_laws.specs.Laws.{ValidAreLimited, EventsKeepHeaps, HeapsAreWellFormed, HeapsAreSmall, NobodyCollects};
+ghost use Rattle.heap_laws.specs.Laws.{ValidAreLimited, EventsKeepHeaps, HeapsAreWellFormed, HeapsAreSmall};
 
 /// A valid program is within the limits that the laws of heaps and histories ask for. These speak of
 /// all commands, those that are not built yet too.
@@ -23,10 +23,4 @@ pub fn heaps_are_well_formed()
 /// A heap has at most 20,000 objects, since a command makes at most one.
 pub fn heaps_are_small()
     ensures { HeapsAreSmall }
-{}
-
-/// Holds until collections are built: a collection is never what a thread of a valid program does
-/// next.
-pub fn nobody_collects()
-    ensures { NobodyCollects }
 {}

@@ -15,8 +15,8 @@ pub fn histories_end()
     ensures { HistoriesEnd }
 {}
 
-/// A thread of a valid program that has not ended has an event that may come next, whatever was
-/// done before. That is so until collections are built.
+/// A thread that has not ended, and for which no collection is due, has an event that may come
+/// next, in every heap.
 pub fn threads_go_on()
     ensures { ThreadsGoOn }
 {}
@@ -44,15 +44,14 @@ pub fn scripts_are_done()
 {}
 
 /// Every event of a lawful history of a valid program has a command that is built, an answer that
-/// such a command gives, and numbers in their ranges; so have the records of collections, of which
-/// no valid program has one until they are built.
+/// such a command gives, and numbers in their ranges; so have the records of collections.
 pub fn events_are_plain()
     ensures { EventsArePlain }
 {}
 
 /// What a thread may do next is one event, but for the orders in which a collection takes its
 /// names: two histories with the same threads in the same order, and the same such orders, are the
-/// same. Until collections are built the order of the threads is enough.
+/// same.
 pub fn order_determines()
     ensures { OrderDetermines }
 {}

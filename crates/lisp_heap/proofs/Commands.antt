@@ -36,6 +36,7 @@ IsSimple commands.Unpin = Unit {0}
 IsSimple (commands.Collect g) = Unit {0}
 IsSimple commands.Inhibit = Unit {0}
 IsSimple commands.Allow = Unit {0}
+IsSimple (commands.ShowPage p) = Unit {0}
 IsSimple _ = ⊥
 
 simple : (c : Command) → IsBuilt c → wish_of c ≡ Nothing → IsSimple c
@@ -61,6 +62,7 @@ simple commands.Unpin built wish = tt
 simple (commands.Collect g) built wish = tt
 simple commands.Inhibit built wish = tt
 simple commands.Allow built wish = tt
+simple (commands.ShowPage p) built wish = tt
 simple _ built wish = absurd built
 
 -- what a thread does that allocates nothing is one of these

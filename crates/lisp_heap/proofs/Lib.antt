@@ -43,3 +43,4 @@ pub mod Letting
 pub mod MakingPass
 pub mod CollectingWith
 pub mod PageReading
+pub mod PageViewing

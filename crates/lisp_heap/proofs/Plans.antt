@@ -43,7 +43,7 @@ indexing_out : {A : Type 0} (xs : List A) (i : ℕ) (d : A) (a : NamedHeap) (go 
 indexing_out xs i d a go h = ap (λ (b : Bool). if b then go (get_or xs i d) else refused OutOfRange a) (le-ltb i (length xs) h)
 
 -- a plan is right by the outcome
-planned : (a : NamedHeap) (t : ℕ) (c : Command) (o : Outcome) (answer : Answer) (change : Change) → outcome_of a t c ≡ o → answer ≡ o.answer →
+pub planned : (a : NamedHeap) (t : ℕ) (c : Command) (o : Outcome) (answer : Answer) (change : Change) → outcome_of a t c ≡ o → answer ≡ o.answer →
     Makes a t o.heap change → IsPlan a t c answer change
 planned a t c o answer change is said makes = record {
   answers = said ∙ ap (λ (x : Outcome). x.answer) (sym is);

@@ -33,6 +33,7 @@ use Rattle.heap_terms.specs.Outcomes.PinCommands.{with_pins}
 use Rattle.heap_terms.specs.Outcomes.RawCommands.{taking}
 use Rattle.heap_terms.specs.RawCells.{raw_value, with_raw}
 use Rattle.heap_terms.specs.Spelling.{word_of}
+use Rattle.heap_terms.specs.PageViews.{page_view}
 use Rattle.heap_terms.specs.Passes.{after_pass, object_after, remains}
 use Rattle.heap_terms.specs.Referents.{changed_at, fields_at, raws_at, refilled, with_field, with_field_at, with_raws}
 use Rattle.heap_terms.specs.Regions.{committed, counting, opened, wish_of, with_destination, destination_of, initial_contents, place_for, run_used, pages_after}
@@ -161,6 +162,8 @@ module _ (a : NamedHeap) (t : ℕ) (h : IsStrongHeap a) where
   strong_outcome commands.Allow simple =
       by_test ((thread_at a t).inhibits == 0) (refused Nothing a) (done (with_thread a t (record (thread_at a t) { inhibits = (thread_at a t).inhibits - 1 })))
       h (strong_thread a t _ h)
+  strong_outcome (commands.ShowPage page) simple =
+      by_test (nat_lt page (length a.pages)) (answering (answers.Page (page_view a page)) a) (refused OutOfRange a) h h
   strong_outcome _ simple = absurd simple
 
 -- ---- commits

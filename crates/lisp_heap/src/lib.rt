@@ -14,6 +14,7 @@ mod field_commands;
 mod inhibit_commands;
 mod new_world;
 mod one_pass;
+mod page_commands;
 mod parcels;
 mod pin_commands;
 mod pins;

@@ -335,6 +335,10 @@ impl World {
                 let plan = self.asked(t as usize, g);
                 self.carry_out(t, command, plan)
             }
+            Command::ShowPage { p } => {
+                let plan = self.viewed(t as usize, p)?;
+                self.carry_out(t, command, plan)
+            }
             // These allocate.
             Command::NewCons { .. }
             | Command::NewVector { .. }
@@ -352,7 +356,6 @@ impl World {
             | Command::Finalize { .. }
             | Command::Cancel { .. }
             | Command::RunFinalizers
-            | Command::ShowPage { .. }
             | Command::Stat { .. } => unreachable!(),
         }
     }

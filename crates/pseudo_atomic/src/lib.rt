@@ -64,6 +64,7 @@ impl StopState {
 }
 
 /// The thread whose word the step reads and changes, or `None` for the turn.
+#[inline(always)]
 fn whose(thread: u32, step: WordStep) -> Option<u32>
     ensures { MatchOption result (place_of thread step ≡ 0) (λ u. place_of thread step ≡ suc u) }
 {
@@ -81,6 +82,7 @@ fn whose(thread: u32, step: WordStep) -> Option<u32>
 }
 
 /// The word after the step.
+#[inline(always)]
 fn changed(thread: u32, step: WordStep, word: u64) -> u64
     ensures { result ≡ becomes thread step word }
 {
@@ -98,6 +100,7 @@ fn changed(thread: u32, step: WordStep, word: u64) -> u64
 }
 
 /// The answer of the step to the word that it found.
+#[inline(always)]
 fn answered(step: WordStep, word: u64) -> StepAnswer
     requires { step ≡ WordStep.Claim → word ≤ 2 ^ 32 }
     ensures { result ≡ answer step word }
@@ -131,6 +134,7 @@ fn answered(step: WordStep, word: u64) -> StepAnswer
 /// `NotYet` where the thread has to wait, enter and leave answer `StopFound` where a stop stands in
 /// the thread's own word, claim answers `Taken` of the holder where the turn is not free, post
 /// answers `Inside` where the other thread is inside a section, and each step else answers `Went`.
+#[inline(always)]
 pub fn word_step(state: &mut StopState, thread: u32, step: WordStep) -> StepAnswer
     requires thread { thread < length state.old.words }
     requires turn { state.old.turn ≤ 2 ^ 32 }

@@ -14,7 +14,7 @@ use Rattle.heap_terms.specs.Valid.{IsValid}
 use Rattle.machine_laws.specs.Measure.{measure}
 use Rattle.machine_laws.specs.Orderly.{IsOrderly}
 use Rattle.replay_core.specs.MachineView.{MachineView, program_of, configuration_of}
-use Rattle.replay_core.specs.Runs.{Turned, Keeps, TurnedKept}
+use Rattle.replay_core.specs.Runs.{Turned, Keeps, TurnedKept, MoreRounds}
 use Rattle.replay_core.specs.Stepping.{AllEnded, TurnDone}
 
 -- the turns of two lists one after the other
@@ -83,6 +83,22 @@ TurnedKept-round k a b c x y z front round =
     let same : length (program_of b).threads ≡ n = ap (λ (p : Program). length p.threads) front.turned.program in
     rw add-one (TurnedKept-append (rounds_of n k) (range_with_len 0 n) a b c x y z front
     (subst (λ (m : ℕ). TurnedKept (range_with_len 0 m) b c y z) same round))
+
+-- and many more
+rounds-append : (n k m : ℕ) → rounds_of n k ++ rounds_of n m ≡ rounds_of n (k + m)
+rounds-append n k zero = append-nil (rounds_of n k) ∙ ap (rounds_of n) (sym (add-zero k))
+rounds-append n k (suc m) =
+    sym (append_assoc (rounds_of n k) (rounds_of n m) (range_with_len 0 n)) ∙ ap (λ (xs : List ℕ). xs ++ range_with_len 0 n) (rounds-append n k m)
+    ∙ ap (rounds_of n) (let e : suc (k + m) ≡ k + suc m = omega arith in e)
+
+pub TurnedKept-rounds : (k : ℕ) (a b c : MachineView) (x y z : Option (List ReplayLine)) → TurnedKept (rounds_of (length (program_of a).threads) k) a b x y →
+    (more : MoreRounds b c y z) → TurnedKept (rounds_of (length (program_of a).threads) (k + more.rounds)) a c x z
+TurnedKept-rounds k a b c x y z front more =
+    let n = length (program_of a).threads in
+    let same : length (program_of b).threads ≡ n = ap (λ (p : Program). length p.threads) front.turned.program in
+    subst (λ (ts : List ℕ). TurnedKept ts a c x z) (rounds-append n k more.rounds)
+    (TurnedKept-append (rounds_of n k) (rounds_of n more.rounds) a b c x y z front
+    (subst (λ (m : ℕ). TurnedKept (rounds_of m more.rounds) b c y z) same more.turned))
 
 -- turns of threads of which each is at its end
 still_turns : (p : Program) (ts : List ℕ) (c : Configuration) → ((t : ℕ) → phase_of c t ≡ Ended) → AreTurns p ts c [] c

@@ -23,7 +23,12 @@ pub record TurnedKept (threads : List ℕ) (old new : MachineView) (kept after :
   pub turned : Turned threads lines old new
   pub keeps : Keeps kept lines after
 
--- and so were some whole rounds of all threads, until every thread had ended
+-- some whole rounds of all threads were done
+pub record MoreRounds (old new : MachineView) (kept after : Option (List ReplayLine)) : Type 0 where
+  pub rounds : ℕ
+  pub turned : TurnedKept (rounds_of (length (program_of old).threads) rounds) old new kept after
+
+-- some whole rounds of all threads were done, until every thread had ended
 pub record RoundsDone (old new : MachineView) (kept after : Option (List ReplayLine)) : Type 0 where
   pub rounds : ℕ
   pub turned : TurnedKept (rounds_of (length (program_of old).threads) rounds) old new kept after

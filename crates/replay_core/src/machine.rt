@@ -141,8 +141,66 @@ impl Machine {
         }
     }
 
-    /// The same turn, with an answer of one byte.
+    /// The same turn, with an answer of one byte. The phases through which every command goes have
+    /// ways of their own, in which the step is known.
+    #[inline(always)]
     pub(crate) fn turn(&mut self, t: u32) -> Result<(), Memory>
+        requires { t < length (program_of self.old).threads }
+        ensures ok { OnOk result (IsDone t self.old self.new) }
+        ensures err { OnErr result (self.new ≡ self.old) }
+    {
+        match self.phases.at(t as usize) {
+            Phase::Inside => self.happens_inside(t),
+            Phase::Leaving => {
+                self.walks(t, Phase::Leaving, WordStep::Leave);
+                Ok(())
+            }
+            Phase::Outside => self.begins(t),
+            _ => self.rare_turn(t),
+        }
+    }
+
+    /// The turn of a thread inside its section.
+    #[inline(always)]
+    fn happens_inside(&mut self, t: u32) -> Result<(), Memory>
+        requires thread { t < length (program_of self.old).threads }
+        requires inside { phase_of (configuration_of self.old) t ≡ Phase.Inside }
+        ensures ok { OnOk result (IsDone t self.old self.new) }
+        ensures err { OnErr result (self.new ≡ self.old) }
+    {
+        self.inside(t)
+    }
+
+    /// The turn of a thread outside: it claims the turn where a collection is due, and else enters.
+    #[inline(always)]
+    fn begins(&mut self, t: u32) -> Result<(), Memory>
+        requires thread { t < length (program_of self.old).threads }
+        requires outside { phase_of (configuration_of self.old) t ≡ Phase.Outside }
+        ensures ok { OnOk result (IsDone t self.old self.new) }
+        ensures err { OnErr result (self.new ≡ self.old) }
+    {
+        if is_due(&self.world, t) {
+            return self.rare_turn(t);
+        }
+        self.walks(t, Phase::Outside, WordStep::Enter);
+        Ok(())
+    }
+
+    /// The turn of a thread that takes a word step.
+    #[inline(always)]
+    fn walks(&mut self, t: u32, phase: Phase, step: WordStep)
+        requires thread { t < length (program_of self.old).threads }
+        requires phase { phase_of (configuration_of self.old) t ≡ phase }
+        requires task { task_at phase (is_due (program_of self.old) self.old.world.history t) ≡ tasks.Walk step }
+        ensures { IsDone t self.old self.new }
+    {
+        let _answer = self.walk(t, phase, step);
+    }
+
+    /// A turn at any phase.
+    #[cold]
+    #[inline(never)]
+    fn rare_turn(&mut self, t: u32) -> Result<(), Memory>
         requires { t < length (program_of self.old).threads }
         ensures ok { OnOk result (IsDone t self.old self.new) }
         ensures err { OnErr result (self.new ≡ self.old) }

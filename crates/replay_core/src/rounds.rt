@@ -4,7 +4,7 @@
 ghost use Rattle.std.specs.Prelude.{◌≡◌, ◌<◌, [], ◌∷◌, ◌++◌, length, OnOk, Some};
 ghost use Rattle.std.specs.List.{range_with_len};
 ghost use Rattle.replay_core.specs.MachineView.{program_of};
-ghost use Rattle.replay_core.specs.Runs.{TurnedKept, RoundsDone};
+ghost use Rattle.replay_core.specs.Runs.{TurnedKept, MoreRounds, RoundsDone};
 
 use crate::machine::{Machine, Stepped};
 use heap_terms::{Memory, ReplayLine, Seq};
@@ -14,6 +14,9 @@ pub type Lines = Seq<ReplayLine>;
 
 /// How many turns of the schedule there are between two looks at whether threads are left.
 const TURNS_BETWEEN_LOOKS: usize = 1024;
+
+/// How many rounds there are at the end between two such looks, less one.
+const ROUNDS_BETWEEN_LOOKS: u32 = 31;
 
 /// One turn of thread t.
 #[inline(always)]
@@ -78,12 +81,23 @@ fn each_in_turn(machine: &mut Machine, kept: &mut Option<Lines>) -> Result<(), M
     Ok(())
 }
 
+/// Some rounds more, also where all threads have ended, which changes nothing.
+fn more_rounds(machine: &mut Machine, kept: &mut Option<Lines>) -> Result<(), Memory>
+    ensures { OnOk result (MoreRounds machine.old machine.new kept.old kept.new) }
+{
+    for _ in 0..ROUNDS_BETWEEN_LOOKS {
+        each_in_turn(machine, kept)?;
+    }
+    Ok(())
+}
+
 /// Rounds of all threads until each has ended.
 pub fn rounds(machine: &mut Machine, kept: &mut Option<Lines>) -> Result<(), Memory>
     ensures { OnOk result (RoundsDone machine.old machine.new kept.old kept.new) }
 {
     while !machine.has_ended() {
         each_in_turn(machine, kept)?;
+        more_rounds(machine, kept)?;
     }
     Ok(())
 }

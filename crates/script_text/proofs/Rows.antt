@@ -7,8 +7,8 @@ use Rattle.heap_terms.specs.declared.commands.Command.{Command}
 use Rattle.heap_terms.specs.declared.commands.Command.TheVariants as commands
 use Rattle.heap_terms.specs.declared.faults.Why.{Why}
 use Rattle.heap_terms.specs.declared.faults.Why.TheVariants.{Fields}
-use Rattle.heap_terms.specs.Fields.{◌>>=◌, is_fixnum, is_i64}
-use Rattle.heap_terms.specs.Grammar.{FieldForm, LispCell, RawCell, RawWord, Signed, Wide, Meaning, Saying, Statement, Does, Row, Small, meaning_of, said_of, rows, row, said_by, statement_of}
+use Rattle.heap_terms.specs.Fields.{◌>>=◌, at_most, is_fixnum, is_i64}
+use Rattle.heap_terms.specs.Grammar.{FieldForm, LispCell, RawCell, RawWord, Signed, Wide, Number, Meaning, Saying, Statement, Does, Row, Small, meaning_of, said_of, rows, row, said_by, statement_of}
 use Rattle.script_text.specs.declared.words.Name.{Name}
 use Rattle.script_text.specs.declared.words.Name.TheVariants as names
 use Rattle.script_text.specs.Commands.{in_first, but_first, front_command, field_count, does}
@@ -43,6 +43,9 @@ row_of names.Show = row (codes "show") (LispCell ∷ []) (λ c. Does (commands.S
 row_of names.Addr = row (codes "addr") (RawCell ∷ LispCell ∷ []) (λ r c. Does (commands.Addr r c))
 row_of names.Raw = row (codes "raw") (RawCell ∷ RawWord ∷ []) (λ r w. Does (commands.SetRaw r w))
 row_of names.Add = row (codes "add") (RawCell ∷ Signed is_i64 ∷ []) (λ r k. Does (commands.AddRaw r k))
+row_of names.Pin = row (codes "pin") (LispCell ∷ []) (λ c. Does (commands.Pin c))
+row_of names.Unpin = row (codes "unpin") [] (Does commands.Unpin)
+row_of names.Gc = row (codes "gc") (Number (at_most 0) ∷ []) (λ g. Does (commands.Collect g))
 row_of names.Page = row (codes "page") (Wide ∷ []) (λ p. Does (commands.ShowPage p))
 row_of names.Nogc = row (codes "nogc") [] (Does commands.Inhibit)
 row_of names.Gcok = row (codes "gcok") [] (Does commands.Allow)
@@ -66,6 +69,9 @@ statement_is names.Show threads fs = refl
 statement_is names.Addr threads fs = refl
 statement_is names.Raw threads fs = refl
 statement_is names.Add threads fs = refl
+statement_is names.Pin threads fs = refl
+statement_is names.Unpin threads fs = refl
+statement_is names.Gc threads fs = refl
 statement_is names.Page threads fs = refl
 statement_is names.Nogc threads fs = refl
 statement_is names.Gcok threads fs = refl
@@ -116,6 +122,9 @@ front_is names.Show fs = one LispCell commands.Show fs
 front_is names.Addr fs = two RawCell LispCell commands.Addr fs
 front_is names.Raw fs = two RawCell RawWord commands.SetRaw fs
 front_is names.Add fs = two RawCell (Signed is_i64) commands.AddRaw fs
+front_is names.Pin fs = one LispCell commands.Pin fs
+front_is names.Unpin fs = refl
+front_is names.Gc fs = one (Number (at_most 0)) commands.Collect fs
 front_is names.Page fs = one Wide commands.ShowPage fs
 front_is names.Nogc fs = refl
 front_is names.Gcok fs = refl
@@ -139,6 +148,9 @@ count_is names.Show = refl
 count_is names.Addr = refl
 count_is names.Raw = refl
 count_is names.Add = refl
+count_is names.Pin = refl
+count_is names.Unpin = refl
+count_is names.Gc = refl
 count_is names.Page = refl
 count_is names.Nogc = refl
 count_is names.Gcok = refl

@@ -44,6 +44,9 @@ a_signed field = ranged is_i64 (signed_of field)
 abbrev pub a_wide : List ℕ → Result ℕ Why
 a_wide field = ranged (at_most 4294967295) (number_of field)
 
+abbrev pub a_generation : List ℕ → Result ℕ Why
+a_generation field = ranged (at_most 0) (number_of field)
+
 abbrev pub a_raw_cell : List ℕ → Result Raw Why
 a_raw_cell field = ok_or (raw_cell_of field) Form
 
@@ -75,6 +78,9 @@ front_command names.Show fs = in_first a_cell fs >>= λ c. Ok (commands.Show c)
 front_command names.Addr fs = in_first a_raw_cell fs >>= λ r. in_first a_cell (but_first fs) >>= λ c. Ok (commands.Addr r c)
 front_command names.Raw fs = in_first a_raw_cell fs >>= λ r. in_first a_raw_word (but_first fs) >>= λ w. Ok (commands.SetRaw r w)
 front_command names.Add fs = in_first a_raw_cell fs >>= λ r. in_first a_signed (but_first fs) >>= λ k. Ok (commands.AddRaw r k)
+front_command names.Pin fs = in_first a_cell fs >>= λ c. Ok (commands.Pin c)
+front_command names.Unpin fs = Ok commands.Unpin
+front_command names.Gc fs = in_first a_generation fs >>= λ g. Ok (commands.Collect g)
 front_command names.Page fs = in_first a_wide fs >>= λ p. Ok (commands.ShowPage p)
 front_command names.Nogc fs = Ok commands.Inhibit
 front_command names.Gcok fs = Ok commands.Allow
@@ -98,6 +104,9 @@ field_count names.Show = 1
 field_count names.Addr = 2
 field_count names.Raw = 2
 field_count names.Add = 2
+field_count names.Pin = 1
+field_count names.Unpin = 0
+field_count names.Gc = 1
 field_count names.Page = 1
 field_count names.Nogc = 0
 field_count names.Gcok = 0

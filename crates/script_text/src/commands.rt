@@ -18,8 +18,8 @@ impl Name {
         ensures { result ≡ field_count self }
     {
         match self {
-            Name::Nogc | Name::Gcok => 0,
-            Name::Nil | Name::Show | Name::Page => 1,
+            Name::Unpin | Name::Nogc | Name::Gcok => 0,
+            Name::Nil | Name::Show | Name::Pin | Name::Gc | Name::Page => 1,
             Name::Fix
             | Name::Move
             | Name::Vector
@@ -150,6 +150,15 @@ fn front(name: Name, left: &mut Cursor) -> Result<Command, Why>
             let r = left.raw_cell()?;
             let k = left.signed()?;
             Ok(Command::AddRaw { r, k })
+        }
+        Name::Pin => {
+            let c = left.cell()?;
+            Ok(Command::Pin { c })
+        }
+        Name::Unpin => Ok(Command::Unpin),
+        Name::Gc => {
+            let g = left.generation()?;
+            Ok(Command::Collect { g })
         }
         Name::Page => {
             let p = left.wide()?;
@@ -360,7 +369,14 @@ fn plain_front(name: Name, rest: &[u8]) -> Option<(Command, &[u8])>
         Name::Show => plain_show(rest),
         Name::Addr => plain_addr(rest),
         Name::Add => plain_add(rest),
-        Name::Words | Name::Raw | Name::Page | Name::Nogc | Name::Gcok => None,
+        Name::Words
+        | Name::Raw
+        | Name::Pin
+        | Name::Unpin
+        | Name::Gc
+        | Name::Page
+        | Name::Nogc
+        | Name::Gcok => None,
     }
 }
 

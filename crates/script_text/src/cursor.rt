@@ -5,7 +5,7 @@ ghost use Rattle.std.specs.Str.Lines.{lines};
 ghost use Rattle.heap_terms.specs.Fields.{turns_of};
 ghost use Rattle.heap_terms.specs.declared.faults.Why.TheVariants.{Fields};
 ghost use Rattle.script_text.specs.ReaderAnswers.{only_field};
-ghost use Rattle.script_text.specs.Commands.{Moved, but_first, in_first, a_cell, an_index, a_fixnum, a_signed, a_wide, a_raw_cell, a_raw_word, SaysCommand};
+ghost use Rattle.script_text.specs.Commands.{Moved, but_first, in_first, a_cell, an_index, a_fixnum, a_signed, a_wide, a_generation, a_raw_cell, a_raw_word, SaysCommand};
 ghost use Rattle.script_text.specs.Left.{Taken, NoneLeft, fields_left, lines_after};
 ghost use Rattle.script_text.specs.Values.{one_by_one};
 
@@ -154,6 +154,16 @@ impl<'a> Cursor<'a> {
     {
         let field = self.field()?;
         number_up_to(field, u32::MAX)
+    }
+
+    /// A generation that `gc` may name: until promotion is built the youngest alone.
+    pub(crate) fn generation(&mut self) -> Result<u8, Why>
+        ensures value { result ≡ in_first a_generation (fields_left self.old) }
+        ensures moved { OnOk result (Moved self.old self.new) }
+    {
+        let field = self.field()?;
+        let generation = number_up_to(field, 0)?;
+        Ok(generation as u8)
     }
 
     /// A raw cell.

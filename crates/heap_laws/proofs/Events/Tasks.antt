@@ -175,10 +175,3 @@ next_alive p a t owed alive = next_free-is p a t (due_none (thread_at a t) owed)
 pub next_ended : (p : Program) (a : NamedHeap) (t : ℕ) → (thread_at a t).ended ≡ true → next p a t ≡ nexts.Done
 unfolding next
 next_ended p a t ended = rw ended refl
-
--- where nobody owes a collection nobody collects
-abbrev pub OweNothing : NamedHeap → Type 0
-OweNothing a = (t : ℕ) → (thread_at a t).owed ≡ None
-
-pub never_collects : (p : Program) (a : NamedHeap) (t last : ℕ) → OweNothing a → next p a t ≡ nexts.Collect last → ⊥
-never_collects p a t last calm e = (let owing = (collects_next p a t last e).1 in let never : None ≡ Some last = sym (calm t) ∙ owing in cc)

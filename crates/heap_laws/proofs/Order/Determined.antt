@@ -20,9 +20,7 @@ use Rattle.heap_terms.specs.Passes.{order_of}
 use Rattle.heap_terms.specs.Valid.{IsValid}
 use Rattle.heap_terms.specs.WellFormed.{IsWellFormed}
 use Rattle.heap_laws.specs.Order.{orders_of}
-use Rattle.heap_laws.proofs.Events.Tasks.{OweNothing, never_collects}
 use Rattle.pass_laws.proofs.Determined.{passes_determined}
-use Rattle.heap_laws.proofs.Programs.OweNothing.{after-owes, start-owes}
 use Rattle.heap_laws.proofs.Termination.EventsLeft.{collects_is}
 use Rattle.heap_laws.proofs.WellFormed.Replayed.{after-well_formed}
 use Rattle.heap_laws.proofs.WellFormed.Threads.{start-well_formed}
@@ -167,27 +165,3 @@ one_history_from p a (e ∷ es) (f ∷ fs) one two same orders =
 
 pub one_history : (p : Program) (h g : List Event) → Lawful p h → Lawful p g → map thread_of h ≡ map thread_of g → map orders_of h ≡ map orders_of g → h ≡ g
 one_history p h g one two same orders = one_history_from p (start p) h g one two same orders
-
--- where nobody owes a collection an event has no orders
-no_orders : (p : Program) (a : NamedHeap) (e : Event) → OweNothing a → IsNext p a e → orders_of e ≡ []
-no_orders p a (Did t c x) calm next = refl
-no_orders p a (Opened t ty first k) calm next = refl
-no_orders p a (Collected t last passes) calm next = absurd (never_collects p a t last calm (collects_is p a t last passes next))
-no_orders p a (Ended t) calm next = refl
-
-calm_history : (p : Program) (a : NamedHeap) (h g : List Event) → IsValid p → IsWellFormed p a → OweNothing a → LawfulFrom p a h → LawfulFrom p a g →
-    map thread_of h ≡ map thread_of g → h ≡ g
-calm_history p a [] [] valid w calm one two same = refl
-calm_history p a [] (f ∷ fs) valid w calm one two same = cc
-calm_history p a (e ∷ es) [] valid w calm one two same = cc
-calm_history p a (e ∷ es) (f ∷ fs) valid w calm one two same =
-    let first : thread_of e ≡ thread_of f = cc in
-    let others : map thread_of es ≡ map thread_of fs = cc in
-    let event : e ≡ f = one_next p a e f one.0 two.0 first (no_orders p a e calm one.0 ∙ sym (no_orders p a f calm two.0)) in
-    let two' : LawfulFrom p (after p a e) fs = subst (λ (x : Event). LawfulFrom p (after p a x) fs) (sym event) two.1 in
-    let rest : es ≡ fs = calm_history p (after p a e) es fs valid (after-well_formed p valid a e one.0 w) (after-owes p valid a e one.0 w calm) one.1 two' others in
-    cc
-
--- so in a valid program the order of the threads determines a history, until collections are built
-pub order_alone : (p : Program) (h g : List Event) → IsValid p → Lawful p h → Lawful p g → map thread_of h ≡ map thread_of g → h ≡ g
-order_alone p h g valid one two same = calm_history p (start p) h g valid (start-well_formed p) (start-owes p) one two same

@@ -5,7 +5,7 @@ use Rattle.std.proofs.lemmas.List.{get_or_past}
 use Rattle.std.proofs.lemmas.Option.{slice_get_within, get_or_from_slice_get, none-some}
 use Rattle.std.specs.Prelude.{slice_get}
 use Rattle.heap_terms.specs.declared.commands.Command.{Command}
-use Rattle.heap_terms.specs.declared.commands.Command.TheVariants.{Fix, MakeNil, Move, NewCons, NewVector, NewInstance, NewClosure, NewWords, Get, Put, RawGet, RawPut, Same, Show, Addr, SetRaw, AddRaw, Inhibit, Allow}
+use Rattle.heap_terms.specs.declared.commands.Command.TheVariants.{Fix, MakeNil, Move, NewCons, NewVector, NewInstance, NewClosure, NewWords, Get, Put, RawGet, RawPut, Same, Show, Addr, SetRaw, AddRaw, Pin, Unpin, Collect, Inhibit, Allow, ShowPage}
 use Rattle.heap_terms.specs.declared.programs.Program.{Program}
 use Rattle.heap_terms.specs.Histories.{script_of}
 use Rattle.heap_terms.specs.Valid.{IsValid, IsCommand, name_of, is_built}
@@ -46,8 +46,12 @@ IsBuilt (Show c) = Unit {0}
 IsBuilt (Addr r c) = Unit {0}
 IsBuilt (SetRaw r w) = Unit {0}
 IsBuilt (AddRaw r k) = Unit {0}
+IsBuilt (Pin c) = Unit {0}
+IsBuilt Unpin = Unit {0}
+IsBuilt (Collect g) = Unit {0}
 IsBuilt Inhibit = Unit {0}
 IsBuilt Allow = Unit {0}
+IsBuilt (ShowPage p) = Unit {0}
 IsBuilt _ = ⊥
 
 -- no other command's word is read
@@ -69,8 +73,12 @@ IsBuilt-from_word (Show c) e = tt
 IsBuilt-from_word (Addr r c) e = tt
 IsBuilt-from_word (SetRaw r w) e = tt
 IsBuilt-from_word (AddRaw r k) e = tt
+IsBuilt-from_word (Pin c) e = tt
+IsBuilt-from_word Unpin e = tt
+IsBuilt-from_word (Collect g) e = tt
 IsBuilt-from_word Inhibit e = tt
 IsBuilt-from_word Allow e = tt
+IsBuilt-from_word (ShowPage p) e = tt
 IsBuilt-from_word _ e = false≢true e
 
 -- a command of a valid program's scripts is built

@@ -22,7 +22,7 @@ use Rattle.heap_terms.specs.Regions.{Wish, Nothing, Make, wish_of, has_room, pag
 use Rattle.heap_terms.specs.Outcomes.{outcome_of}
 use Rattle.heap_terms.specs.WellFormed.{IsWellFormed}
 use Rattle.pass_laws.proofs.Collecting.{collection_exists}
-use Rattle.heap_laws.proofs.Events.Tasks.{OweNothing, due_none, next_free-is}
+use Rattle.heap_laws.proofs.Events.Tasks.{next_free-is}
 
 -- whether the k pages from `first` on are free
 pub free_or_not : (pages : List Entry) (first k : ℕ) →
@@ -178,7 +178,3 @@ someone_next p a t w alive = by_due (due (thread_at a t)) refl
           let passes = collection_exists p a last w allowed in
           (Collected t last passes.0, collected_next p a t last passes.0 (next_due p a t last alive owed) passes.1))
     ]
-
--- each thread that has not ended, while nobody owes a collection
-pub always_next : (p : Program) (a : NamedHeap) (t : ℕ) → OweNothing a → (thread_at a t).ended ≡ false → HasNext p a t
-always_next p a t calm alive = free_next p a t alive (due_none (thread_at a t) (calm t))

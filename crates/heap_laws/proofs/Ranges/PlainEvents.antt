@@ -1,19 +1,19 @@
 -- The events of a valid program are plain.
 use Rattle.std.proofs.Common.{◌≡◌, ℕ, ◌*◌, ◌<◌, ◌≤◌, List, [], ◌∷◌, ◌++◌, length, Option, Some, None, inl, inr, refl, ◌∙◌, subst, ap, arith, set}
-use Rattle.std.proofs.lemmas.Bool.{cases_lt, false≢true}
+use Rattle.std.proofs.lemmas.Bool.{cases_lt, false≢true, ltb-true}
 use Rattle.std.proofs.lemmas.List.{get_or_past, get_or_push, length_push}
 use Rattle.std.proofs.lemmas.List.Elements.{All-from_recursion}
 use Rattle.std.specs.List.{All, AllByRecursion}
-use Rattle.std.specs.Prelude.{IfSome, IsSome, slice_index_or, ◌==◌}
+use Rattle.std.specs.Prelude.{IfSome, IsSome, slice_index_or, ◌==◌, nat_lt}
 use Rattle.heap_terms.specs.declared.answers.Answer.TheVariants as answers
 use Rattle.heap_terms.specs.declared.cells.Value.{Value}
 use Rattle.heap_terms.specs.declared.cells.Value.TheVariants as values
 use Rattle.heap_terms.specs.declared.commands.Command.{Command}
-use Rattle.heap_terms.specs.declared.commands.Command.TheVariants.{Fix, MakeNil, Move, NewCons, NewVector, NewInstance, NewClosure, NewWords, Get, Put, RawGet, RawPut, Same, Show, Addr, SetRaw, AddRaw, Inhibit, Allow}
+use Rattle.heap_terms.specs.declared.commands.Command.TheVariants.{Fix, MakeNil, Move, NewCons, NewVector, NewInstance, NewClosure, NewWords, Get, Put, RawGet, RawPut, Same, Show, Addr, SetRaw, AddRaw, Pin, Unpin, Collect, Inhibit, Allow, ShowPage}
 use Rattle.heap_terms.specs.declared.events.Event.{Event}
 use Rattle.heap_terms.specs.declared.kinds.Kind.{Kind}
 use Rattle.heap_terms.specs.declared.programs.Program.{Program}
-use Rattle.heap_terms.specs.declared.limits.TheConstants.{MOST_COMMANDS, MOST_PAGES}
+use Rattle.heap_terms.specs.declared.limits.TheConstants.{MOST_COMMANDS, MOST_PAGES, MOST_PINS}
 use Rattle.heap_terms.specs.Cells.{cell_value, with_cell}
 use Rattle.heap_terms.specs.Heap.{NamedHeap, start, thread_at, object_at, zero_value}
 use Rattle.heap_terms.specs.Histories.{IsNext, after, advance, Lawful, LawfulFrom, thread_of}
@@ -31,6 +31,7 @@ use Rattle.heap_terms.specs.Valid.{IsValid, IsInRange}
 use Rattle.heap_terms.specs.WellFormed.{IsWellFormed, IsLiving, HoldsLiving, IsShaped}
 use Rattle.heap_laws.proofs.WellFormed.Committed.{new_object}
 use Rattle.pass_laws.proofs.Ranges.{collection_plain}
+use Rattle.heap_laws.proofs.Ranges.PlainPages.{view_plain}
 use Rattle.heap_laws.proofs.Ranges.ObjectCount.{IsCounted, after-counted, start-counted, counted_few, event_thread}
 use Rattle.heap_laws.proofs.Outcomes.Parts.{by_test, needing_cases, indexing_cases, fields_refer, raws_refer}
 use Rattle.heap_laws.proofs.Outcomes.WordBounds.{word_below, word_plus-below}
@@ -86,8 +87,13 @@ answer_plain p a t (Show x) w l few pages built r = living_plain a.objects (cell
 answer_plain p a t (Addr d x) w l few pages built r = word_below a (cell_value a t x) w.sound (omega (arith, w.pages_length, pages)) (cell_living p a t x w l)
 answer_plain p a t (SetRaw d v) w l few pages built r = tt
 answer_plain p a t (AddRaw d k) w l few pages built r = word_plus-below (raw_value a t d) k
+answer_plain p a t (Pin x) w l few pages built r = by_test (λ (o : Outcome). IsPlainAnswer o.answer) (nat_lt (length (thread_at a t).pins) MOST_PINS) _ _ (λ e. tt) (λ e. tt)
+answer_plain p a t Unpin w l few pages built r = by_test (λ (o : Outcome). IsPlainAnswer o.answer) (length (thread_at a t).pins == 0) _ _ (λ e. tt) (λ e. tt)
+answer_plain p a t (Collect g) w l few pages built r = tt
 answer_plain p a t Inhibit w l few pages built r = tt
 answer_plain p a t Allow w l few pages built r = by_test (λ (o : Outcome). IsPlainAnswer o.answer) ((thread_at a t).inhibits == 0) _ _ (λ e. tt) (λ e. tt)
+answer_plain p a t (ShowPage q) w l few pages built r = by_test (λ (o : Outcome). IsPlainAnswer o.answer) (nat_lt q (length a.pages)) _ _
+    (λ e. view_plain p a q w few pages (ltb-true q (length a.pages) e)) (λ e. tt)
 answer_plain p a t _ w l few pages built r = absurd built
 
 -- where a new object lies in the heap after its commit

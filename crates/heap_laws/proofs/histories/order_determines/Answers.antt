@@ -1,5 +1,5 @@
-use Rattle.heap_laws.proofs.Order.Determined.{one_next, one_history, order_alone}
+use Rattle.heap_laws.proofs.Order.Determined.{one_next, one_history}
 use Rattle.heap_laws.proofs.histories.order_determines.Goals as goal
 
 pub returns : goal.returns
-returns c = (one_next, one_history, order_alone)
+returns c = (one_next, one_history)

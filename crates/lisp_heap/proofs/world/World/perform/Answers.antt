@@ -63,10 +63,7 @@ unreachable-requires-in-WeakVal c =
                   | inl e ↦ subst IsSimple e.1 simple
                   | inr more ↦ elim more [
                     | inl e ↦ subst IsSimple e simple
-                    | inr more ↦ elim more [
-                      | inl e ↦ subst IsSimple e.1 simple
-                      | inr more ↦ subst IsSimple more.1 simple
-                    ]
+                    | inr more ↦ subst IsSimple more.1 simple
                   ]
                 ]
               ]

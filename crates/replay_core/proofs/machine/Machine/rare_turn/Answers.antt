@@ -7,7 +7,7 @@ use Rattle.replay_core.specs.MachineView.{MachineView}
 use Rattle.replay_core.specs.Stepping.{IsDone, EventDone}
 use Rattle.replay_core.proofs.Asking.{found_task}
 use Rattle.replay_core.proofs.Turning.{step_turn, event_turn}
-use Rattle.replay_core.proofs.machine.Machine.turn.Goals as goal
+use Rattle.replay_core.proofs.machine.Machine.rare_turn.Goals as goal
 
 pub returns-in-Walk-clause-ok : goal.returns-in-Walk-clause-ok
 returns-in-Walk-clause-ok c =

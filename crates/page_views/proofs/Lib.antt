@@ -1,0 +1,4 @@
+pub mod Gaps
+pub mod Items
+pub mod Walking
+pub mod Viewing
