@@ -1,11 +1,11 @@
 -- Which threads let a collection be made.
-use Rattle.std.proofs.Common.{◌≡◌, ℕ, ◌+◌, ◌<◌, ◌≤◌, List, [], ◌∷◌, length, map, take, drop, refl, sym, ◌∙◌, subst, ap, arith, get_or, Bool, true, false, inl, inr, zero-add}
-use Rattle.std.proofs.lemmas.Bool.{cases_lt, cases_Bool, eqb-true, eq-eqb, false≢true}
+use Rattle.std.proofs.Common.{◌≡◌, ℕ, ◌<◌, List, [], ◌∷◌, length, map, refl, sym, ◌∙◌, subst, ap, arith, get_or, true, false, inl, inr, zero-add}
+use Rattle.std.proofs.lemmas.Bool.{cases_lt, cases_Bool, eqb-true, eq-eqb}
 use Rattle.std.proofs.lemmas.List.{get_or_default, get_or_past, length-map, get_or-map, ext_get_or}
 use Rattle.std.proofs.lemmas.List.Elements.{All-from_get_or}
 use Rattle.std.proofs.lemmas.List.FromFn.{length-range_with_len, get_or-range_with_len}
 use Rattle.std.specs.List.{range_with_len}
-use Rattle.std.specs.Prelude.{All, ◌==◌, not, slice_index_or, Result, Ok, Err, is_ok, OnOk}
+use Rattle.std.specs.Prelude.{◌==◌, not, Result, Ok, Err, is_ok, OnOk}
 use Rattle.heap_terms.specs.Heap.{NamedHeap, Thread, thread_at, ended_thread, fresh_thread}
 use Rattle.lisp_heap.specs.Agreement.{Agrees, AreFresh}
 use Rattle.lisp_heap.specs.ParcelView.{ParcelView, empty_parcel}

@@ -1,11 +1,10 @@
 -- A command that allocates nothing: after its one write all stands for the heap after it.
-use Rattle.std.proofs.Common.{◌≡◌, ℕ, ◌+◌, ◌<◌, List, [], ◌∷◌, ◌++◌, length, refl, sym, ◌∙◌, subst, ap, arith, get_or, set, length-set, Option, Some}
+use Rattle.std.proofs.Common.{◌≡◌, ℕ, ◌+◌, ◌<◌, List, [], ◌∷◌, ◌++◌, length, refl, sym, ◌∙◌, subst, ap, arith, get_or, set, length-set, Some}
 use Rattle.std.proofs.Math.Seq.{map-set_same}
 use Rattle.heap_terms.specs.declared.cells.Value.{Value}
 use Rattle.heap_terms.specs.declared.programs.Program.{Program}
 use Rattle.heap_terms.specs.Cells.{with_cell}
 use Rattle.heap_terms.specs.Heap.{NamedHeap, Thread, thread_at, with_thread, zero_value}
-use Rattle.heap_terms.specs.Objects.{Object}
 use Rattle.heap_terms.specs.Outcomes.PinCommands.{with_pins}
 use Rattle.heap_terms.specs.RawCells.{with_raw}
 use Rattle.heap_terms.specs.Stands.{WordsStand}
@@ -117,7 +116,6 @@ Holds-change p a new v t (changes.Inhibits count) wf wf_new ht holds makes =
     let state : ThreadState = record (get_or v.states t fresh_state) { inhibits = count } in
     let same : state ≡ state_of th = ap (λ (x : ThreadState). record x { inhibits = count }) (state_read a v.states t fresh_state holds.states lt) in
     subst (λ (b : NamedHeap). Holds b (parts_after v t (changes.Inhibits count))) (sym makes) (Holds-thread a v t th state refl refl refl refl same holds)
-
 Holds-change p a new v t (changes.Owes last) wf wf_new ht holds makes =
     let lt : t < length a.threads = omega (arith, wf.threads_length) in
     let th : Thread = record (thread_at a t) { owed = Some last } in
