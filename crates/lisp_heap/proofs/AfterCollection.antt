@@ -1,35 +1,33 @@
 -- What a World's fields stand for after a collection.
-use Rattle.std.proofs.Common.{◌≡◌, ℕ, ◌+◌, ◌-◌, ◌*◌, ◌<◌, ◌≤◌, List, [], ◌∷◌, ◌++◌, length, map, take, drop, refl, sym, ◌∙◌, subst, ap, arith, get_or, set, Option, option_map, None, Bool, true, false, inl, inr}
+use Rattle.std.proofs.Common.{◌≡◌, ℕ, ◌+◌, ◌*◌, ◌<◌, List, [], ◌∷◌, length, map, refl, sym, ◌∙◌, subst, ap, arith, get_or, option_map, None, Bool, false, inl, inr}
 use Rattle.std.proofs.lemmas.Bool.{cases_eq}
 use Rattle.std.proofs.lemmas.List.{length-append, length-drop, length-map, length-take-le, get_or-map, get_or-take, get_or-drop, get_or_append_left, get_or-append-add}
-use Rattle.std.specs.Prelude.{flat_map, slice_index, slice_index_or}
+use Rattle.std.specs.Prelude.{flat_map}
 use Rattle.heap_terms.specs.declared.cells.Value.{Value}
 use Rattle.heap_terms.specs.declared.events.Event.TheVariants.{Collected}
 use Rattle.heap_terms.specs.declared.events.PassRecord.{PassRecord}
 use Rattle.heap_terms.specs.declared.pages.Entry.{Entry}
 use Rattle.heap_terms.specs.declared.pages.Next.TheVariants as nexts
 use Rattle.heap_terms.specs.declared.programs.Program.{Program}
-use Rattle.heap_terms.specs.Collections.{IsCollection, IsPassOf, after_pass_of, after_passes, closed, closed_thread, collected, goes_on_after}
-use Rattle.heap_terms.specs.Heap.{NamedHeap, Thread, thread_at, with_thread, zero_value}
+use Rattle.heap_terms.specs.Collections.{IsCollection, after_pass_of, closed, closed_thread, collected}
+use Rattle.heap_terms.specs.Heap.{NamedHeap, Thread, thread_at, zero_value}
 use Rattle.heap_terms.specs.Histories.{IsNext, after, next}
-use Rattle.heap_terms.specs.Objects.{Object}
 use Rattle.heap_terms.specs.Passes.{IsPass, after_pass}
 use Rattle.heap_terms.specs.Policy.{goes_on, promotes, raises, target_of}
 use Rattle.heap_terms.specs.Spelling.{word_of}
-use Rattle.heap_terms.specs.Stands.{WordsStand}
 use Rattle.heap_terms.specs.WellFormed.{IsWellFormed}
 use Rattle.heap_laws.proofs.EventSteps.{collected_threads}
 use Rattle.pass_laws.proofs.AfterPages.{objects_long}
 use Rattle.trace_laws.specs.Rooted.{StandFor}
 use Rattle.lisp_heap.specs.Agreement.{Agrees, run_out, run_type_of, small_out}
-use Rattle.lisp_heap.specs.CellsView.{CellsView, spot, raw_spot, with_exact_words}
+use Rattle.lisp_heap.specs.CellsView.{CellsView, spot, with_exact_words}
 use Rattle.lisp_heap.specs.ParcelView.{empty_parcel}
 use Rattle.lisp_heap.specs.Parts.{Parts}
-use Rattle.lisp_heap.specs.Rooting.{ambiguous_roots, exact_of, exact_roots, root_values, rooted}
+use Rattle.lisp_heap.specs.Rooting.{ambiguous_roots, exact_of, root_values}
 use Rattle.lisp_heap.specs.Standing.{CellsStand, Holds, LabelsStand, pins_of}
 use Rattle.lisp_heap.specs.State.{fresh_state, state_closed, state_of, with_owed}
 use Rattle.lisp_heap.specs.declared.states.ThreadState.{ThreadState}
-use Rattle.lisp_heap.proofs.Closing.{Holds-closed, closed_wf, exact_each, stack_each}
+use Rattle.lisp_heap.proofs.Closing.{Holds-closed, closed_wf, exact_each}
 use Rattle.lisp_heap.proofs.FlatCells.{HaveEach, flat_at, flat_long}
 use Rattle.lisp_heap.proofs.PerformLemmas.{Holds-thread}
 use Rattle.lisp_heap.proofs.Pinned.{ambiguous_stays, stack_word}

@@ -1,19 +1,17 @@
 -- The heap with all regions closed, for which a World's fields stand before a pass.
-use Rattle.std.proofs.Common.{◌≡◌, ℕ, ◌+◌, ◌*◌, ◌/◌, ◌%◌, ◌<◌, ◌≤◌, List, [], ◌∷◌, ◌++◌, length, map, refl, sym, ◌∙◌, subst, ap, arith, get_or, Option, inl, inr}
-use Rattle.std.proofs.lemmas.Bool.{cases_lt}
-use Rattle.std.proofs.lemmas.List.{length-map, get_or-map, get_or_past, get_or_default, ext_get_or}
-use Rattle.std.specs.Prelude.{All, flat_map, slice_index, slice_index_or}
+use Rattle.std.proofs.Common.{◌≡◌, ℕ, ◌*◌, ◌/◌, ◌%◌, ◌<◌, ◌≤◌, List, [], ◌∷◌, ◌++◌, length, map, refl, sym, ◌∙◌, subst, ap, arith, get_or}
+use Rattle.std.proofs.lemmas.List.{length-map, get_or-map, get_or_default, ext_get_or}
+use Rattle.std.specs.Prelude.{All, flat_map}
 use Rattle.heap_terms.specs.declared.cells.Value.{Value}
 use Rattle.heap_terms.specs.declared.programs.Program.{Program}
 use Rattle.heap_terms.specs.Collections.{closed, closed_thread}
 use Rattle.heap_terms.specs.Heap.{NamedHeap, Thread, thread_at, ended_thread, fresh_thread, zero_value}
 use Rattle.heap_terms.specs.Living.{AreLiving}
-use Rattle.heap_terms.specs.Objects.{Object}
 use Rattle.heap_terms.specs.Spelling.{word_of}
 use Rattle.heap_terms.specs.WellFormed.{IsWellFormed, IsThread}
 use Rattle.pass_laws.proofs.Collecting.{closed-well_formed}
 use Rattle.trace_laws.specs.Rooted.{RootsStand, StandFor}
-use Rattle.lisp_heap.specs.CellsView.{CellsView, spot, raw_spot}
+use Rattle.lisp_heap.specs.CellsView.{CellsView}
 use Rattle.lisp_heap.specs.Parts.{Parts}
 use Rattle.lisp_heap.specs.Rooting.{ambiguous_roots, exact_of, exact_roots, root_values, rooted}
 use Rattle.lisp_heap.specs.Standing.{CellsStand, Holds, pins_of}

@@ -1,5 +1,5 @@
 -- A collection over the fields of a World: it can be made, and the fields stand after it.
-use Rattle.std.proofs.Common.{◌≡◌, ℕ, ◌+◌, ◌*◌, ◌<◌, ◌≤◌, List, [], ◌∷◌, ◌++◌, length, map, refl, sym, ◌∙◌, subst, ap, arith, None, false, true}
+use Rattle.std.proofs.Common.{◌≡◌, ℕ, ◌+◌, ◌*◌, ◌<◌, ◌≤◌, List, [], ◌∷◌, ◌++◌, length, map, refl, sym, ◌∙◌, subst, ap, arith, None, false}
 use Rattle.std.proofs.lemmas.List.{length-append, length-map}
 use Rattle.std.specs.Option.{ForSome}
 use Rattle.std.specs.Prelude.{flat_map}
@@ -8,12 +8,10 @@ use Rattle.heap_terms.specs.declared.events.Event.TheVariants.{Collected}
 use Rattle.heap_terms.specs.declared.events.PassRecord.{PassRecord}
 use Rattle.heap_terms.specs.declared.pages.Entry.{Entry}
 use Rattle.heap_terms.specs.declared.pages.Next.TheVariants as nexts
-use Rattle.heap_terms.specs.declared.programs.Program.{Program}
 use Rattle.heap_terms.specs.Collections.{closed}
 use Rattle.heap_terms.specs.Heap.{NamedHeap, thread_at}
-use Rattle.heap_terms.specs.Histories.{IsNext, after, next}
-use Rattle.heap_terms.specs.Objects.{Object}
-use Rattle.heap_terms.specs.Passes.{IsPass, after_pass}
+use Rattle.heap_terms.specs.Histories.{IsNext, after}
+use Rattle.heap_terms.specs.Passes.{after_pass}
 use Rattle.heap_terms.specs.Spelling.{word_of}
 use Rattle.heap_terms.specs.WellFormed.{IsWellFormed}
 use Rattle.collect_pass.specs.Pass.{CanPass, IsReservedFor, RoomView}
@@ -38,7 +36,7 @@ use Rattle.lisp_heap.proofs.Closing.{Holds-closed, closed_wf, exact_each, few_am
 use Rattle.lisp_heap.proofs.FlatCells.{flat_long}
 use Rattle.lisp_heap.proofs.PerformLemmas.{Holds-same}
 use Rattle.lisp_heap.proofs.Soundness.{heap, well_formed}
-use Rattle.lisp_heap.proofs.Stepping.{agrees_after, happens_after, heap_after, sound_after}
+use Rattle.lisp_heap.proofs.Stepping.{happens_after, heap_after, sound_after}
 use Rattle.lisp_heap.proofs.StrongHeaps.{replay-strong, strong_same}
 use Rattle.lisp_heap.proofs.WordReading.{thread_in}
 

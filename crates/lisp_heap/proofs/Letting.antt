@@ -1,13 +1,13 @@
 -- Which threads let a collection be made.
-use Rattle.std.proofs.Common.{◌≡◌, ℕ, ◌+◌, ◌<◌, ◌≤◌, List, [], ◌∷◌, length, map, take, drop, refl, sym, ◌∙◌, subst, ap, arith, get_or, Bool, true, false, inl, inr}
-use Rattle.std.proofs.lemmas.Bool.{cases_lt, cases_Bool, eqb-true, eq-eqb, false≢true}
-use Rattle.std.proofs.lemmas.List.{get_or_default, get_or_past, length-map, get_or-map}
+use Rattle.std.proofs.Common.{◌≡◌, ℕ, ◌<◌, List, [], ◌∷◌, length, map, refl, sym, ◌∙◌, subst, ap, arith, get_or, true, false, inl, inr, zero-add}
+use Rattle.std.proofs.lemmas.Bool.{cases_lt, cases_Bool, eqb-true, eq-eqb}
+use Rattle.std.proofs.lemmas.List.{get_or_default, get_or_past, length-map, get_or-map, ext_get_or}
 use Rattle.std.proofs.lemmas.List.Elements.{All-from_get_or}
-use Rattle.std.proofs.lemmas.List.FromFn.{length-range_with_len}
+use Rattle.std.proofs.lemmas.List.FromFn.{length-range_with_len, get_or-range_with_len}
 use Rattle.std.specs.List.{range_with_len}
-use Rattle.std.specs.Prelude.{All, ◌==◌, not, slice_index_or, Result, Ok, Err, is_ok, OnOk}
+use Rattle.std.specs.Prelude.{◌==◌, not, Result, Ok, Err, is_ok, OnOk}
 use Rattle.heap_terms.specs.Heap.{NamedHeap, Thread, thread_at, ended_thread, fresh_thread}
-use Rattle.lisp_heap.specs.Agreement.{Agrees}
+use Rattle.lisp_heap.specs.Agreement.{Agrees, AreFresh}
 use Rattle.lisp_heap.specs.ParcelView.{ParcelView, empty_parcel}
 use Rattle.lisp_heap.specs.Ready.{AllLet, AreByOwner, AreReady, Lets, all_empty, owner_of}
 
@@ -42,6 +42,21 @@ count_of parcels n h = sym (length-map parcels owner_of) ∙ ap length h ∙ len
 pub empty_owners : (parcels : List ParcelView) → map owner_of (all_empty parcels) ≡ map owner_of parcels
 empty_owners [] = refl
 empty_owners (q ∷ parcels) = ap (λ (xs : List ℕ). q.owner ∷ xs) (empty_owners parcels)
+
+-- the same of each parcel by itself
+pub by_owner_at : (parcels : List ParcelView) (n t : ℕ) (d : ParcelView) → AreByOwner parcels n → t < length parcels → (get_or parcels t d).owner ≡ t
+by_owner_at parcels n t d h l =
+    sym (get_or-map owner_of parcels t d 0 l) ∙ ap (λ (xs : List ℕ). get_or xs t 0) h ∙ get_or-range_with_len 0 n t 0 (omega (arith, l, count_of parcels n h)) ∙ zero-add t
+
+pub by_owner_from : (parcels : List ParcelView) (n : ℕ) → length parcels ≡ n → ((t : ℕ) (d : ParcelView) → t < length parcels → (get_or parcels t d).owner ≡ t) → AreByOwner parcels n
+by_owner_from parcels n count owners =
+    ext_get_or 0 (map owner_of parcels) (range_with_len 0 n) (length-map parcels owner_of ∙ count ∙ sym (length-range_with_len 0 n)) (λ t l.
+    (let inside : t < length parcels = omega (arith, l, length-map parcels owner_of) in
+    get_or-map owner_of parcels t (empty_parcel 0) 0 inside ∙ owners t (empty_parcel 0) inside ∙ sym (get_or-range_with_len 0 n t 0 (omega (arith, inside, count)) ∙ zero-add t)))
+
+pub fresh_by_owner : (parcels : List ParcelView) (n : ℕ) → AreFresh parcels n → AreByOwner parcels n
+fresh_by_owner parcels n h =
+    by_owner_from parcels n h.count (λ t d l. ap owner_of (h.each t d (omega (arith, l, h.count))))
 
 -- parcels without regions are ready where each such parcel agrees
 pub empty_ready : (a : NamedHeap) (parcels : List ParcelView) (n : ℕ) → AreByOwner parcels n → ((u : ℕ) → Agrees a (empty_parcel u)) → AreReady a (all_empty parcels) n

@@ -1,19 +1,17 @@
 -- One pass over the fields of a World: its record has room, and the labels stand after it.
-use Rattle.std.proofs.Common.{◌≡◌, ℕ, ◌≤◌, List, length, map, refl, sym, ◌∙◌, subst, ap, arith}
+use Rattle.std.proofs.Common.{◌≡◌, ℕ, List, length, sym, ◌∙◌, subst, ap, arith}
 use Rattle.std.proofs.lemmas.List.{length-map}
-use Rattle.std.specs.Prelude.{All, vec_capacity}
 use Rattle.heap_terms.specs.declared.events.PassRecord.{PassRecord}
 use Rattle.heap_terms.specs.declared.events.PinAt.{PinAt}
 use Rattle.heap_terms.specs.declared.events.Placing.{Placing}
 use Rattle.heap_terms.specs.declared.pages.Entry.{Entry}
-use Rattle.heap_terms.specs.Passes.{IsPass, after_pass}
+use Rattle.heap_terms.specs.Passes.{after_pass}
 use Rattle.heap_terms.specs.Policy.{target_of}
-use Rattle.collect_pass.specs.Pass.{CanPass, IsPassDone, RoomView}
+use Rattle.collect_pass.specs.Pass.{IsPassDone, RoomView}
 use Rattle.copy_space.specs.declared.notes.Pass.{Pass}
 use Rattle.copy_space.specs.declared.notes.PassNotes.{PassNotes}
 use Rattle.copy_space.specs.Moved.{noted}
-use Rattle.trace_laws.specs.Noted.{IsToldBy}
-use Rattle.trace_laws.specs.Rooted.{Rooted, StandFor}
+use Rattle.trace_laws.specs.Rooted.{Rooted}
 use Rattle.lisp_heap.specs.Collecting.{CanMake, IsMade}
 use Rattle.lisp_heap.specs.Recording.{CanRelabel, HasRoom, HaveLabels, recorded, relabelled}
 use Rattle.lisp_heap.specs.Standing.{LabelsStand}

@@ -1,11 +1,10 @@
 -- A command that allocates nothing: after its one write all stands for the heap after it.
-use Rattle.std.proofs.Common.{◌≡◌, ℕ, ◌+◌, ◌<◌, List, [], ◌∷◌, ◌++◌, length, refl, sym, ◌∙◌, subst, ap, arith, get_or, set, length-set, Option, Some}
+use Rattle.std.proofs.Common.{◌≡◌, ℕ, ◌+◌, ◌<◌, List, [], ◌∷◌, ◌++◌, length, refl, sym, ◌∙◌, subst, ap, arith, get_or, set, length-set, Some}
 use Rattle.std.proofs.Math.Seq.{map-set_same}
 use Rattle.heap_terms.specs.declared.cells.Value.{Value}
 use Rattle.heap_terms.specs.declared.programs.Program.{Program}
 use Rattle.heap_terms.specs.Cells.{with_cell}
 use Rattle.heap_terms.specs.Heap.{NamedHeap, Thread, thread_at, with_thread, zero_value}
-use Rattle.heap_terms.specs.Objects.{Object}
 use Rattle.heap_terms.specs.Outcomes.PinCommands.{with_pins}
 use Rattle.heap_terms.specs.RawCells.{with_raw}
 use Rattle.heap_terms.specs.Stands.{WordsStand}

@@ -1,13 +1,13 @@
 -- What an ambiguous word hits stays where it is, and there are no more pins than such words.
-use Rattle.std.proofs.Common.{◌≡◌, ◌≢◌, ℕ, ◌+◌, ◌*◌, ◌<◌, ◌≤◌, List, [], ◌∷◌, ◌++◌, length, map, refl, sym, ◌∙◌, subst, ap, arith, get_or, Option, Some, None, Bool, true, false, inl, inr}
-use Rattle.std.proofs.lemmas.Bool.{cases_Bool, eqb-true, eq-eqb, and_from, false≢true, not_from_true}
+use Rattle.std.proofs.Common.{◌≡◌, ◌≢◌, ℕ, ◌<◌, ◌≤◌, List, ◌++◌, length, map, refl, sym, ◌∙◌, subst, ap, arith, get_or, Option, Some, None, Bool, true, false, inl, inr}
+use Rattle.std.proofs.lemmas.Bool.{cases_Bool, eqb-true, eq-eqb, and_from, false≢true}
 use Rattle.std.proofs.lemmas.Bool.Decides.{Decides-eqb}
 use Rattle.std.proofs.lemmas.Cmp.{nat_eq_equiv}
-use Rattle.std.proofs.lemmas.List.{length-map, get_or-map, get_or_default}
+use Rattle.std.proofs.lemmas.List.{length-map, get_or-map}
 use Rattle.std.proofs.lemmas.List.Folds.{list_any_at}
 use Rattle.std.proofs.lemmas.Map.Made.{IsDistinct-from_AllPairs, length-le_from_is_member}
 use Rattle.std.specs.List.{list_any}
-use Rattle.std.specs.Prelude.{◌==◌, ◌||◌, ◌&&◌, not, nat_eq, unwrap_or, IsSome}
+use Rattle.std.specs.Prelude.{◌==◌, ◌&&◌, nat_eq, unwrap_or}
 use Rattle.heap_terms.specs.declared.cells.Value.{Value}
 use Rattle.heap_terms.specs.declared.cells.Value.TheVariants as values
 use Rattle.heap_terms.specs.declared.events.PassRecord.{PassRecord}
@@ -16,14 +16,13 @@ use Rattle.heap_terms.specs.declared.events.Placing.{Placing}
 use Rattle.heap_terms.specs.declared.kinds.Kind.{Kind}
 use Rattle.heap_terms.specs.declared.kinds.Kind.TheVariants as kinds
 use Rattle.heap_terms.specs.Generations.{has_generation, is_of}
-use Rattle.heap_terms.specs.Heap.{NamedHeap, Thread, thread_at, ended_thread, fresh_thread, object_at, zero_value}
+use Rattle.heap_terms.specs.Heap.{NamedHeap, thread_at, ended_thread, fresh_thread, object_at, zero_value}
 use Rattle.heap_terms.specs.Layout.{base_address, lowtag_of, reference_word}
 use Rattle.heap_terms.specs.Living.{IsLiving}
-use Rattle.heap_terms.specs.Objects.{Object, Contents, kind_of}
-use Rattle.heap_terms.specs.Passes.{IsPass, after_pass, moved_to, remains, remains_at, is_listed_move, is_listed_pin}
+use Rattle.heap_terms.specs.Objects.{Object, kind_of}
+use Rattle.heap_terms.specs.Passes.{IsPass, after_pass, moved_to, remains, remains_at}
 use Rattle.heap_terms.specs.Roots.{ambiguous_words, hits, is_hit, is_pinned, thread_words}
 use Rattle.heap_terms.specs.Spelling.{word_of, word_of_object}
-use Rattle.heap_terms.specs.Survival.{surviving}
 use Rattle.heap_terms.specs.WellFormed.{IsSound}
 use Rattle.heap_laws.proofs.AtPlaces.{IsSome-value}
 use Rattle.pass_laws.proofs.AfterPages.{surviving-kind, moved_listed}

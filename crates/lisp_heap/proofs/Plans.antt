@@ -13,7 +13,7 @@ use Rattle.heap_terms.specs.declared.cells.Value.TheVariants as values
 use Rattle.heap_terms.specs.declared.commands.Command.{Command}
 use Rattle.heap_terms.specs.declared.commands.Command.TheVariants as commands
 use Rattle.heap_terms.specs.Cells.{cell_value, with_cell}
-use Rattle.heap_terms.specs.Heap.{NamedHeap, object_at, thread_at, with_thread, zero_value}
+use Rattle.heap_terms.specs.Heap.{NamedHeap, thread_at, with_thread, zero_value}
 use Rattle.heap_terms.specs.Layout.{fixnum_word, nil_word}
 use Rattle.heap_terms.specs.Objects.{Object, Contents, WordsOf, kind_of, payload_of, fields_of}
 use Rattle.heap_terms.specs.Outcome.{Outcome, done, answering, refused, needing, indexing}

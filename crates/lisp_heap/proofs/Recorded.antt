@@ -1,24 +1,22 @@
 -- The record that is written from the notes of a pass is the one that they tell, and it has room.
-use Rattle.std.proofs.Common.{◌≡◌, ◌≢◌, ℕ, ◌+◌, ◌*◌, ◌/◌, ◌<◌, ◌≤◌, List, [], ◌∷◌, ◌++◌, length, map, refl, sym, ◌∙◌, subst, ap, arith, get_or, Option, Some, None, Bool, true, false, inl, inr}
+use Rattle.std.proofs.Common.{◌≡◌, ◌≢◌, ℕ, ◌/◌, ◌<◌, ◌≤◌, List, [], ◌∷◌, length, map, refl, sym, ◌∙◌, subst, ap, arith, get_or, Option, Some, None, Bool, true, false, inl, inr}
 use Rattle.std.proofs.lemmas.Bool.{eq-eqb, ne_eqb, eqb-true, cases_lt}
 use Rattle.std.proofs.lemmas.Bool.Decides.{Decides-eqb}
-use Rattle.std.proofs.lemmas.Cmp.{nat_eq_equiv}
-use Rattle.std.proofs.lemmas.List.{length-map, get_or-map, get_or_past, get_or_default}
+use Rattle.std.proofs.lemmas.List.{length-map, get_or-map, get_or_past}
 use Rattle.std.proofs.lemmas.List.Elements.{All-head, All-tail, All-map, All-same, All-weaker}
 use Rattle.std.proofs.lemmas.List.Filters.{length-filter_both}
-use Rattle.std.proofs.lemmas.List.Folds.{list_any_at}
 use Rattle.std.proofs.lemmas.List.FromFn.{length-range_with_len}
-use Rattle.std.proofs.lemmas.Map.Made.{IsDistinct-from_AllPairs, length-le_from_is_member}
+use Rattle.std.proofs.lemmas.Map.Made.{IsDistinct-from_AllPairs}
 use Rattle.std.proofs.lemmas.Map.Steps.{length-le_from_distinct_below}
-use Rattle.std.specs.List.{list_any, range_with_len}
-use Rattle.std.specs.Prelude.{slice_index, All, AllPairs, ◌==◌, ◌&&◌, not, filter, if◌then◌else◌, unwrap_or, nat_eq}
+use Rattle.std.specs.List.{range_with_len}
+use Rattle.std.specs.Prelude.{slice_index, All, ◌==◌, not, filter, if◌then◌else◌, unwrap_or}
 use Rattle.heap_terms.specs.declared.events.PassRecord.{PassRecord}
 use Rattle.heap_terms.specs.declared.events.PinAt.{PinAt}
 use Rattle.heap_terms.specs.declared.events.Placing.{Placing}
 use Rattle.heap_terms.specs.Generations.{has_generation, is_of}
 use Rattle.heap_terms.specs.Heap.{NamedHeap, object_at, entry_at}
-use Rattle.heap_terms.specs.Objects.{Object, kind_of, payload_of, words_of_object}
-use Rattle.heap_terms.specs.Passes.{IsPass, order_of, freed_of, is_freed}
+use Rattle.heap_terms.specs.Objects.{Object, kind_of, payload_of}
+use Rattle.heap_terms.specs.Passes.{IsPass, order_of, is_freed}
 use Rattle.heap_terms.specs.WellFormed.{IsSound}
 use Rattle.heap_laws.proofs.AtPlaces.{IfSome-at}
 use Rattle.heap_laws.proofs.Allocating.{size_least}

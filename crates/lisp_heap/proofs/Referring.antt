@@ -1,5 +1,5 @@
 -- To what the words of a sound World refer.
-use Rattle.std.proofs.Common.{◌≡◌, ◌≢◌, ℕ, ◌+◌, ◌*◌, ◌/◌, ◌%◌, ◌^◌, ◌<◌, ◌≤◌, List, [], ◌∷◌, length, refl, sym, ◌∙◌, subst, ap, arith, get_or, Some, None, Option, pos, negsuc, ℤ, inl, inr, ◌⊎◌, true, false}
+use Rattle.std.proofs.Common.{◌≡◌, ◌≢◌, ℕ, ◌+◌, ◌*◌, ◌/◌, ◌%◌, ◌<◌, ◌≤◌, length, refl, ◌∙◌, subst, ap, arith, get_or, Some, None, pos, negsuc, ℤ, inl, inr, ◌⊎◌, true, false}
 use Rattle.std.proofs.lemmas.Bool.{cases_eq, cases_Bool}
 use Rattle.std.specs.Prelude.{slice_index}
 use Rattle.heap_terms.specs.declared.cells.Value.{Value}
@@ -7,14 +7,14 @@ use Rattle.heap_terms.specs.declared.cells.Value.TheVariants.{Fix, Nil, Unbound,
 use Rattle.heap_terms.specs.declared.kinds.Kind.{Kind}
 use Rattle.heap_terms.specs.declared.kinds.Kind.TheVariants as kinds
 use Rattle.heap_terms.specs.Heap.{object_at}
-use Rattle.heap_terms.specs.Layout.{base_address, fixnum_word, reference_word, lowtag_of, header_of}
-use Rattle.heap_terms.specs.Objects.{Object, Contents, ConsOf, VectorOf, InstanceOf, ClosureOf, WordsOf, WeakTo, TableOf, kind_of, payload_of, words_of_object, fields_of}
+use Rattle.heap_terms.specs.Layout.{base_address, fixnum_word, lowtag_of, header_of}
+use Rattle.heap_terms.specs.Objects.{Object, Contents, ConsOf, VectorOf, InstanceOf, ClosureOf, WordsOf, WeakTo, TableOf, kind_of, payload_of, words_of_object}
 use Rattle.heap_terms.specs.Pairs.{same_value}
-use Rattle.heap_terms.specs.Referents.{name_in, contents_of, contents_at, fields_at, raws_at, raws_of}
+use Rattle.heap_terms.specs.Referents.{name_in}
 use Rattle.heap_terms.specs.Slots.{Slot, Raw, slot_at}
 use Rattle.heap_terms.specs.Stands.{StandsFor, SlotsStand}
 use Rattle.heap_terms.specs.Valid.{IsFixnum}
-use Rattle.heap_terms.specs.WellFormed.{IsLiving, IsPlaced, IsShaped}
+use Rattle.heap_terms.specs.WellFormed.{IsLiving, IsShaped}
 use Rattle.heap_terms.specs.Spelling.{word_of, word_of_object}
 use Rattle.heap_laws.proofs.Allocating.{size_least}
 use Rattle.heap_laws.proofs.AtPlaces.{IfSome-at, IsSome-value}
@@ -22,10 +22,9 @@ use Rattle.heap_laws.proofs.Reading.{header_leads, same_value-true, same_value-s
 use Rattle.lisp_words.specs.Tagged.{IsTagged, IsHeader, tag_bits}
 use Rattle.lisp_words.specs.declared.pointers.Lowtag.{Lowtag}
 use Rattle.lisp_words.specs.declared.pointers.Lowtag.TheVariants as lowtags
-use Rattle.lisp_heap.specs.LivingWords.{RefersTo, IsReferent}
+use Rattle.lisp_heap.specs.LivingWords.{IsReferent}
 use Rattle.lisp_heap.specs.View.{View, heap_of}
 use Rattle.lisp_heap.specs.WorldSound.{IsSound, view_of}
-use Rattle.lisp_heap.specs.declared.referents.Referent.{Referent}
 use Rattle.lisp_heap.specs.declared.world.World.TheInside.{Inside}
 use Rattle.lisp_heap.proofs.SlotChanges.{within_capacity, payload_small}
 use Rattle.lisp_heap.proofs.Soundness.{heap, well_formed}

@@ -1,15 +1,15 @@
 -- The labels after the moves of a pass stand for the heap after it.
-use Rattle.std.proofs.Common.{◌≡◌, ◌≢◌, ℕ, zero, suc, ◌+◌, ◌*◌, ◌/◌, ◌<◌, ◌≤◌, List, [], ◌∷◌, ◌++◌, length, take, refl, sym, ◌∙◌, subst, ap, arith, get_or, set, length-set, get_or-set_same, get_or-set_other, Option, Some, None, Bool, true, false, ◌⊎◌, inl, inr}
-use Rattle.std.proofs.lemmas.Bool.{cases_Bool, cases_eq, eqb-true, eq-eqb, ne_eqb, or_left, or_right, and_parts}
+use Rattle.std.proofs.Common.{◌≡◌, ◌≢◌, ℕ, zero, suc, ◌+◌, ◌*◌, ◌/◌, ◌<◌, List, [], ◌∷◌, ◌++◌, length, take, refl, sym, ◌∙◌, subst, ap, arith, get_or, set, length-set, get_or-set_same, get_or-set_other, Option, Some, None, true, ◌⊎◌, inl, inr}
+use Rattle.std.proofs.lemmas.Bool.{cases_Bool, cases_eq, eq-eqb, ne_eqb, or_left, or_right}
 use Rattle.std.proofs.lemmas.List.{take_more}
 use Rattle.std.proofs.lemmas.List.Folds.{list_any_at}
 use Rattle.std.proofs.lemmas.Option.{same_Some}
-use Rattle.std.specs.Prelude.{slice_index, AllPairs, IfSome, ◌==◌, ◌||◌, not, unwrap_or}
+use Rattle.std.specs.Prelude.{slice_index, AllPairs, ◌==◌, not, unwrap_or}
 use Rattle.heap_terms.specs.declared.events.PassRecord.{PassRecord}
 use Rattle.heap_terms.specs.declared.events.Placing.{Placing}
-use Rattle.heap_terms.specs.Generations.{has_generation, is_of}
+use Rattle.heap_terms.specs.Generations.{has_generation}
 use Rattle.heap_terms.specs.Heap.{NamedHeap, object_at}
-use Rattle.heap_terms.specs.Objects.{Object, kind_of, payload_of, words_of_object}
+use Rattle.heap_terms.specs.Objects.{Object, kind_of, payload_of}
 use Rattle.heap_terms.specs.Passes.{IsPass, after_pass, is_listed_pin, moved_to, remains, remains_at}
 use Rattle.heap_terms.specs.WellFormed.{IsSound, AreApart}
 use Rattle.heap_laws.proofs.AtPlaces.{IfSome-at, IfSome-from}

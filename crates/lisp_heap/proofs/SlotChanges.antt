@@ -1,5 +1,5 @@
 -- Which slot of an object holds a field or a raw word, and what a change of it makes of the slots.
-use Rattle.std.proofs.Common.{◌≡◌, ◌≢◌, ℕ, zero, suc, ◌+◌, ◌-◌, ◌<◌, ◌≤◌, List, [], ◌∷◌, ◌++◌, length, map, replicate, Option, Some, None, ◌⊎◌, inl, inr, refl, sym, ◌∙◌, subst, ap, arith, get_or, set}
+use Rattle.std.proofs.Common.{◌≡◌, ◌≢◌, ℕ, zero, suc, ◌+◌, ◌-◌, ◌<◌, ◌≤◌, List, [], ◌∷◌, ◌++◌, length, map, replicate, Option, Some, ◌⊎◌, inl, inr, refl, sym, ◌∙◌, subst, ap, arith, get_or, set}
 use Rattle.std.proofs.lemmas.Bool.{cases_eq}
 use Rattle.std.proofs.lemmas.List.{length-map, length-set, map-set, set-append_left, get_or_append_left, get_or-map, get_or-set_same, get_or-set_other}
 use Rattle.std.proofs.lemmas.Option.{slice_get_within, slice_get-get_or, get_or_from_slice_get}
@@ -12,7 +12,7 @@ use Rattle.heap_terms.specs.Heap.{zero_value}
 use Rattle.heap_terms.specs.Layout.{header_of, size_with_header}
 use Rattle.heap_terms.specs.Living.{IsShaped}
 use Rattle.heap_terms.specs.Objects.{Contents, ConsOf, VectorOf, InstanceOf, ClosureOf, WordsOf, WeakTo, TableOf, kind_of, payload_of, fields_of}
-use Rattle.heap_terms.specs.Referents.{with_field, raws_of}
+use Rattle.heap_terms.specs.Referents.{with_field}
 use Rattle.heap_terms.specs.Slots.{Slot, Raw, Val, Side, Kept, under_header, slots, slot_at}
 use Rattle.heap_terms.specs.Stands.{StandsFor}
 use Rattle.heap_terms.specs.Objects.{Object}

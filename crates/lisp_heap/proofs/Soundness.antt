@@ -1,13 +1,10 @@
 -- What is known of the heap for which a sound World stands.
-use Rattle.std.proofs.Common.{◌≡◌, ℕ, ◌<◌, List, [], length, sym, ◌∙◌, subst, ap, arith, Option, Some}
+use Rattle.std.proofs.Common.{◌≡◌, ℕ, ◌<◌, List, [], length, sym, ◌∙◌, subst, ap, arith}
 use Rattle.std.proofs.Math.ListN.{length-map}
-use Rattle.heap_terms.specs.declared.programs.Program.{Program}
 use Rattle.std.specs.Prelude.{slice_index_or}
-use Rattle.heap_terms.specs.Heap.{NamedHeap, object_at, thread_at}
+use Rattle.heap_terms.specs.Heap.{NamedHeap, thread_at}
 use Rattle.heap_terms.specs.Histories.{replay}
-use Rattle.heap_terms.specs.Objects.{Object, Contents, ConsOf}
-use Rattle.heap_terms.specs.declared.cells.Value.{Value}
-use Rattle.heap_terms.specs.WellFormed.{IsWellFormed, HoldsLiving, IsLiving}
+use Rattle.heap_terms.specs.WellFormed.{IsWellFormed}
 use Rattle.heap_laws.proofs.SoundHeaps.{replay-well_formed}
 use Rattle.lisp_heap.specs.CellsView.{HasCells}
 use Rattle.lisp_heap.specs.PinsView.{HasPinRoom}

@@ -1,16 +1,15 @@
 -- Where the fields and the raw words of an object lie.
-use Rattle.std.proofs.Common.{◌≡◌, ℕ, ◌+◌, ◌*◌, ◌^◌, ◌<◌, ◌≤◌, List, [], ◌∷◌, length, refl, sym, ◌∙◌, subst, ap, arith, get_or, Some, None, Option}
+use Rattle.std.proofs.Common.{◌≡◌, ℕ, ◌+◌, ◌^◌, ◌<◌, ◌≤◌, List, [], ◌∷◌, length, refl, sym, ◌∙◌, subst, ap, arith, get_or, Some, None, Option}
 use Rattle.std.specs.Prelude.{slice_index, option_and_then}
 use Rattle.heap_terms.specs.declared.cells.Value.{Value}
-use Rattle.heap_terms.specs.declared.cells.Value.TheVariants as values
 use Rattle.heap_terms.specs.declared.kinds.Kind.{Kind}
 use Rattle.heap_terms.specs.declared.kinds.Kind.TheVariants as kinds
-use Rattle.heap_terms.specs.Heap.{NamedHeap, object_at, zero_value}
+use Rattle.heap_terms.specs.Heap.{object_at, zero_value}
 use Rattle.heap_terms.specs.Layout.{size_of}
-use Rattle.heap_terms.specs.Objects.{Object, Contents, ConsOf, VectorOf, InstanceOf, ClosureOf, WordsOf, WeakTo, TableOf, kind_of, payload_of, fields_of, words_of_object}
+use Rattle.heap_terms.specs.Objects.{Object, Contents, ConsOf, VectorOf, InstanceOf, ClosureOf, WordsOf, WeakTo, TableOf, kind_of, payload_of, fields_of}
 use Rattle.heap_terms.specs.Referents.{name_in, contents_of, contents_at, fields_at, raws_at, raws_of}
 use Rattle.heap_terms.specs.Slots.{Val, Raw, slot_at}
-use Rattle.heap_terms.specs.WellFormed.{IsLiving, HoldsLiving}
+use Rattle.heap_terms.specs.WellFormed.{IsLiving}
 use Rattle.heap_terms.specs.Spelling.{word_of}
 use Rattle.heap_laws.proofs.Reading.{fields_living}
 use Rattle.lisp_heap.specs.LivingWords.{RefersTo, IsReferent, IsPayload, AreFields, AreRaws, header_words}
@@ -19,7 +18,7 @@ use Rattle.lisp_heap.specs.View.{View, heap_of}
 use Rattle.lisp_heap.specs.declared.referents.Referent.{Referent}
 use Rattle.lisp_heap.specs.declared.referents.Span.{Span}
 use Rattle.lisp_heap.specs.declared.world.World.TheInside.{Inside}
-use Rattle.lisp_heap.proofs.Referring.{ObjectAt, object_known, slot_word}
+use Rattle.lisp_heap.proofs.Referring.{object_known, slot_word}
 use Rattle.lisp_heap.proofs.SlotChanges.{fields_payload, field_slot, raw_slot}
 use Rattle.lisp_heap.proofs.Soundness.{heap, well_formed}
 

@@ -1,8 +1,7 @@
 -- The heap that a lawful history of a valid program leaves has no table, no weak pointer and no finalizer, until commands
 -- that make some are built.
-use Rattle.std.proofs.Common.{◌≡◌, ℕ, zero, suc, ◌+◌, ◌-◌, List, [], ◌∷◌, ◌++◌, length, take, refl, sym, ◌∙◌, subst, ap, get_or, set, map, replicate, Option, Some, None, Bool, true, false, inl, inr}
+use Rattle.std.proofs.Common.{◌≡◌, ℕ, zero, suc, ◌+◌, ◌-◌, List, [], ◌∷◌, ◌++◌, length, take, refl, sym, ◌∙◌, subst, ap, get_or, set, Option, Some, None, Bool, true, false, inl, inr}
 use Rattle.std.proofs.lemmas.Bool.{cases_Bool}
-use Rattle.std.proofs.lemmas.List.{get_or-replicate}
 use Rattle.std.proofs.lemmas.Option.{same_Some}
 use Rattle.std.specs.Prelude.{if◌then◌else◌, ◌==◌, nat_lt, filter}
 use Rattle.heap_terms.specs.declared.answers.Answer.{Answer}
@@ -10,7 +9,6 @@ use Rattle.heap_terms.specs.declared.answers.Answer.TheVariants as answers
 use Rattle.heap_terms.specs.declared.answers.Refusal.TheVariants.{OutOfRange, PinsFull, Nothing}
 use Rattle.heap_terms.specs.declared.cells.Cell.{Cell}
 use Rattle.heap_terms.specs.declared.cells.Cell.TheVariants.{Stack, Exact, Shared}
-use Rattle.heap_terms.specs.declared.cells.Raw.{Raw}
 use Rattle.heap_terms.specs.declared.cells.Value.{Value}
 use Rattle.heap_terms.specs.declared.cells.Value.TheVariants as values
 use Rattle.heap_terms.specs.declared.commands.Command.{Command}
@@ -32,11 +30,11 @@ use Rattle.heap_terms.specs.Outcome.{Outcome, answering, done, refused, needing,
 use Rattle.heap_terms.specs.Outcomes.{outcome_of}
 use Rattle.heap_terms.specs.Outcomes.PinCommands.{with_pins}
 use Rattle.heap_terms.specs.Outcomes.RawCommands.{taking}
-use Rattle.heap_terms.specs.RawCells.{raw_value, with_raw}
+use Rattle.heap_terms.specs.RawCells.{raw_value}
 use Rattle.heap_terms.specs.Spelling.{word_of}
 use Rattle.heap_terms.specs.Passes.{after_pass, object_after, remains}
 use Rattle.heap_terms.specs.Referents.{changed_at, fields_at, raws_at, refilled, with_field, with_field_at, with_raws}
-use Rattle.heap_terms.specs.Regions.{committed, counting, opened, wish_of, with_destination, destination_of, initial_contents, place_for, run_used, pages_after}
+use Rattle.heap_terms.specs.Regions.{committed, opened, wish_of, with_destination, destination_of, initial_contents, place_for, run_used, pages_after}
 use Rattle.heap_terms.specs.Layout.{size_of}
 use Rattle.heap_terms.specs.Survival.{surviving, registered}
 use Rattle.heap_terms.specs.Valid.{IsValid}
@@ -162,7 +160,8 @@ module _ (a : NamedHeap) (t : ℕ) (h : IsStrongHeap a) where
   strong_outcome commands.Allow simple =
       by_test ((thread_at a t).inhibits == 0) (refused Nothing a) (done (with_thread a t (record (thread_at a t) { inhibits = (thread_at a t).inhibits - 1 })))
       h (strong_thread a t _ h)
-  strong_outcome (commands.ShowPage q) simple = by_test (nat_lt q (length a.pages)) (answering (answers.Page (page_view a q)) a) (refused OutOfRange a) h h
+  strong_outcome (commands.ShowPage page) simple =
+      by_test (nat_lt page (length a.pages)) (answering (answers.Page (page_view a page)) a) (refused OutOfRange a) h h
   strong_outcome _ simple = absurd simple
 
 -- ---- commits

@@ -1,19 +1,14 @@
 -- A thread that opens a region or builds an object has a command.
-use Rattle.std.proofs.Common.{◌≡◌, ◌≢◌, ℕ, subst, sym, refl, Option, Some, None, true, inl, inr}
+use Rattle.std.proofs.Common.{◌≡◌, ◌≢◌, ℕ, sym, refl, Option, Some, None}
 use Rattle.std.specs.Prelude.{IsSome}
 use Rattle.heap_terms.specs.declared.commands.Command.{Command}
-use Rattle.heap_terms.specs.declared.commands.Command.TheVariants as commands
-use Rattle.heap_terms.specs.declared.cells.Cell.{Cell}
 use Rattle.heap_terms.specs.declared.kinds.Kind.{Kind}
-use Rattle.heap_terms.specs.declared.kinds.Kind.TheVariants as kinds
 use Rattle.heap_terms.specs.declared.pages.Next.{Next}
 use Rattle.heap_terms.specs.declared.pages.Next.TheVariants as nexts
 use Rattle.heap_terms.specs.declared.programs.Program.{Program}
-use Rattle.heap_terms.specs.Heap.{NamedHeap, thread_at}
-use Rattle.heap_terms.specs.Histories.{command_at, next, next_for, next_command}
-use Rattle.heap_terms.specs.Regions.{wish_of, Wish, Make, has_room}
-use Rattle.heap_terms.specs.Valid.{IsValid}
-use Rattle.heap_laws.proofs.NextEvents.{next_parts, next_with_command, builds_for}
+use Rattle.heap_terms.specs.Heap.{NamedHeap}
+use Rattle.heap_terms.specs.Histories.{command_at, next, next_command}
+use Rattle.heap_laws.proofs.NextEvents.{next_parts}
 
 -- a thread that allocates has a command
 some_command : (a : NamedHeap) (t : ℕ) (o : Option Command) (n : Next) → next_command a t o ≡ n → n ≢ nexts.End → IsSome o

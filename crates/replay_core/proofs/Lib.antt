@@ -6,3 +6,4 @@ pub mod Asking
 pub mod Insides
 pub mod Many
 pub mod Whole
+pub mod Collects

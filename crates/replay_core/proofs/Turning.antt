@@ -19,11 +19,12 @@ use Rattle.heap_terms.specs.declared.steps.WordStep.TheVariants.{Resume, Enter, 
 use Rattle.heap_terms.specs.Heap.{thread_at}
 use Rattle.heap_terms.specs.Histories.{replay}
 use Rattle.heap_terms.specs.MachineTurns.{Configuration, phase_of, is_due, has_ended, stays_inside, answer_in, step_lines, IsTurn, Does, Walks, HasEvent}
-use Rattle.heap_terms.specs.Phases.{collects, is_over, task_at, walked, happened, went}
+use Rattle.heap_terms.specs.Phases.{collects, is_over, task_at, walked, happened, releasing_from, went}
 use Rattle.heap_terms.specs.Valid.{IsValid}
 use Rattle.heap_terms.specs.WordMachine.{has, words_after, answer_at, answer}
 use Rattle.heap_laws.specs.Limited.{IsLimited}
 use Rattle.heap_laws.proofs.EventSteps.{limited}
+use Rattle.lisp_heap.specs.Events.{Happens}
 use Rattle.lisp_heap.specs.View.{View, heap_of, next_of}
 use Rattle.machine_laws.specs.Fitting.{Fits}
 use Rattle.machine_laws.specs.Order.{IsPlaced, holds}
@@ -203,3 +204,24 @@ waits_if p t step c o l task = by_phase (phase_of c t) (is_due p c.history t) re
 -- a thread that walks is not at its end
 pub walks_on : (m : MachineView) (t : ℕ) (step : WordStep) → task_at (phase_of (configuration_of m) t) (is_due (program_of m) m.world.history t) ≡ Walk step → phase_of (configuration_of m) t ≢ Ended
 walks_on m t step task ended = (let never : Rest ≡ Walk step = ap (λ (x : Phase). task_at x (is_due (program_of m) m.world.history t)) (sym ended) ∙ task in cc)
+
+-- a collection, from its parts
+pub collection_done : (old new : View) (turn : ℕ) (words : List ℕ) (phases phases' : List Phase) (t : ℕ) → Happens t old new →
+    phase_of (configuration_of (seen old turn words phases)) t ≡ Collecting → phases' ≡ set phases t (releasing_from (length old.program.threads) t 0) →
+    EventDone t (seen old turn words phases) (seen new turn words phases')
+collection_done old new turn words phases phases' t h at phases_are =
+    let n = length old.program.threads in
+    record {
+      program = h.program;
+      event = record {
+        event = h.event;
+        thread = h.thread;
+        lawful = h.lawful;
+        history = h.history;
+        turn = refl;
+        words = refl;
+        phases = phases_are
+            ∙ ap (λ (x : Phase). set phases t (happened n t x (stays_inside (replay old.program new.history) h.event))) (sym at);
+        shown = refl;
+      };
+    }

@@ -1,5 +1,5 @@
 -- What the pass did is recorded, and the labels follow it.
-use Rattle.std.proofs.Common.{◌≡◌, length, refl, sym, ◌∙◌, subst, ap, List, ℕ}
+use Rattle.std.proofs.Common.{sym, ◌∙◌, subst, ap}
 use Rattle.collect_pass.specs.Pass.{IsPassDone}
 use Rattle.copy_space.specs.declared.notes.PassNotes.{PassNotes}
 use Rattle.lisp_heap.specs.Recording.{relabelled}

@@ -1,5 +1,5 @@
 -- One move more.
-use Rattle.std.proofs.Common.{◌≡◌, length, get_or, None, ap, sym, ◌∙◌}
+use Rattle.std.proofs.Common.{length, get_or, None, ap, sym, ◌∙◌}
 use Rattle.heap_terms.specs.declared.events.Placing.{Placing}
 use Rattle.lisp_heap.specs.Recording.{labelled_by}
 use Rattle.lisp_heap.proofs.Relabelling.{relabelled_more, labelled_long}

@@ -1,5 +1,5 @@
 -- The states so far are closed, and the rest are as they were.
-use Rattle.std.proofs.Common.{◌≡◌, ◌<◌, ◌+◌, length, arith, ap, sym, ◌∙◌, get_or, set}
+use Rattle.std.proofs.Common.{◌<◌, length, arith, ap, ◌∙◌, get_or, set}
 use Rattle.std.proofs.lemmas.List.{get_or_default}
 use Rattle.std.proofs.lemmas.List.Edits.{map_over_more}
 use Rattle.lisp_heap.specs.State.{fresh_state, state_closed}

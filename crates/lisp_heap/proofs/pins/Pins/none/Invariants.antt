@@ -1,4 +1,4 @@
-use Rattle.std.proofs.Common.{◌≡◌, ◌≤◌, List, ℕ, [], replicate, vec_len, vec_capacity}
+use Rattle.std.proofs.Common.{◌≡◌, ◌≤◌, [], replicate, vec_len, vec_capacity}
 use Rattle.lisp_heap.proofs.pins.Pins.none.Given as goal
 
 abbrev pub invariant-loop-t : goal.invariant-loop-t

@@ -1,5 +1,5 @@
 -- `add` adds a signed number to a raw cell, modulo 2^64.
-use Rattle.std.proofs.Common.{◌≡◌, ℕ, ℤ, pos, negsuc, ◌+◌, ◌-◌, ◌%◌, ◌^◌, refl, ap, ◌∙◌, to_z, of_z, w64, FitsSigned, arith}
+use Rattle.std.proofs.Common.{◌≡◌, ℕ, ℤ, pos, negsuc, ◌+◌, ◌-◌, ◌%◌, ◌^◌, refl, ap, ◌∙◌, to_z, of_z, w64, arith}
 use Rattle.std.proofs.lemmas.Int.{to_z-of_z}
 use Rattle.heap_terms.specs.RawCells.{word_plus}
 use Rattle.lisp_heap.specs.View.{heap_of}

@@ -1,5 +1,5 @@
 -- `gcok`: the count falls, or is 0.
-use Rattle.std.proofs.Common.{◌≡◌, ◌<◌, ℕ, length, arith, subst, sym, ap, ◌∙◌}
+use Rattle.std.proofs.Common.{arith, subst, sym, ap, ◌∙◌}
 use Rattle.heap_terms.specs.declared.commands.Command.TheVariants as commands
 use Rattle.heap_terms.specs.Heap.{thread_at}
 use Rattle.lisp_heap.specs.Plan.{IsPlan}

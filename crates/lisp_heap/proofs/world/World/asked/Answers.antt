@@ -1,12 +1,7 @@
 -- `gc`: the thread owes the greater generation.
-use Rattle.std.proofs.Common.{◌≡◌, ◌<◌, ◌≤◌, ℕ, List, length, arith, subst, sym, ap, ◌∙◌}
-use Rattle.heap_terms.specs.declared.commands.Command.TheVariants as commands
+use Rattle.std.proofs.Common.{arith, ap, ◌∙◌}
 use Rattle.heap_terms.specs.Heap.{thread_at}
-use Rattle.lisp_heap.specs.Plan.{IsPlan}
 use Rattle.lisp_heap.specs.View.{View, heap_of}
-use Rattle.lisp_heap.specs.WorldSound.{IsSound, view_of}
-use Rattle.lisp_heap.specs.declared.plan.Plan.{Plan}
-use Rattle.lisp_heap.specs.declared.world.World.TheInside.{Inside}
 use Rattle.lisp_heap.specs.declared.states.ThreadState.{ThreadState}
 use Rattle.lisp_heap.proofs.Plans.{asked_is}
 use Rattle.lisp_heap.proofs.Soundness.{states_length}

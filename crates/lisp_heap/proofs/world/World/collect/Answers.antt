@@ -1,12 +1,11 @@
 -- A collection closes all parcels.
-use Rattle.std.proofs.Common.{◌≡◌, ℕ, List, length, map, refl, sym, ◌∙◌, subst, ap, arith, Bool, true, is_ok}
+use Rattle.std.proofs.Common.{◌≡◌, ℕ, List, length, map, sym, ◌∙◌, subst, ap, Bool, true, is_ok}
 use Rattle.std.specs.Prelude.{not}
 use Rattle.heap_terms.specs.declared.programs.Program.{Program}
-use Rattle.heap_terms.specs.Heap.{thread_at}
 use Rattle.lisp_heap.specs.Agreement.{Agrees}
 use Rattle.lisp_heap.specs.Events.{Happens}
 use Rattle.lisp_heap.specs.ParcelView.{ParcelView, empty_parcel}
-use Rattle.lisp_heap.specs.Ready.{AllLet, AreByOwner, AreReady, all_empty, owner_of}
+use Rattle.lisp_heap.specs.Ready.{AreByOwner, AreReady, owner_of}
 use Rattle.lisp_heap.specs.View.{View, heap_of}
 use Rattle.lisp_heap.proofs.Letting.{count_of, empty_owners, empty_ready, nobody_inhibits, on_ok}
 use Rattle.lisp_heap.proofs.Soundness.{well_formed}

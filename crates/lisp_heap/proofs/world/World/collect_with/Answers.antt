@@ -1,16 +1,14 @@
 -- A collection is one event.
-use Rattle.std.proofs.Common.{◌≡◌, ℕ, ◌+◌, ◌<◌, List, [], ◌∷◌, ◌++◌, length, map, refl, sym, ◌∙◌, subst, ap, arith, None}
+use Rattle.std.proofs.Common.{◌≡◌, ℕ, List, [], ◌∷◌, ◌++◌, length, refl, ◌∙◌, subst, ap, arith, None}
 use Rattle.heap_terms.specs.declared.events.Event.{Event}
 use Rattle.heap_terms.specs.declared.events.Event.TheVariants.{Collected}
 use Rattle.heap_terms.specs.declared.events.PassRecord.{PassRecord}
 use Rattle.std.proofs.lemmas.List.{length-map}
-use Rattle.lisp_heap.specs.Collecting.{IsMade}
 use Rattle.lisp_heap.specs.CellsView.{with_exact_words}
 use Rattle.lisp_heap.specs.Recording.{HasRoom}
-use Rattle.lisp_heap.specs.Rooting.{ambiguous_roots}
 use Rattle.lisp_heap.specs.State.{state_closed, with_owed}
 use Rattle.lisp_heap.specs.declared.world.World.TheInside.{Inside}
-use Rattle.lisp_heap.proofs.CollectingWith.{youngest, can_make, exact_long, Written, sound_then, happens, agrees}
+use Rattle.lisp_heap.proofs.CollectingWith.{can_make, exact_long, Written, sound_then, happens, agrees}
 use Rattle.lisp_heap.proofs.Soundness.{states_length}
 use Rattle.lisp_heap.proofs.WordReading.{thread_in}
 use Rattle.lisp_heap.proofs.world.World.collect_with.Given as given

@@ -1,6 +1,5 @@
 -- Two values are the same just where their words are.
-use Rattle.std.proofs.Common.{◌≡◌, true, false, sym, ap, ◌∙◌}
-use Rattle.heap_terms.specs.declared.answers.Answer.TheVariants as answers
+use Rattle.std.proofs.Common.{true, false, sym, ◌∙◌}
 use Rattle.heap_terms.specs.Cells.{cell_value}
 use Rattle.lisp_heap.specs.View.{heap_of}
 use Rattle.lisp_heap.proofs.Plans.{compared_is}

@@ -1,13 +1,12 @@
 -- Where the fields of a referent lie.
-use Rattle.std.proofs.Common.{◌≡◌, ◌+◌, ◌<◌, ℕ, arith, subst, sym, refl, ap, ◌∙◌, Option, Some, None, ◌⊎◌, inl, inr}
+use Rattle.std.proofs.Common.{◌≡◌, ◌+◌, ℕ, arith, subst, sym, refl, ap, Option, ◌⊎◌, inl, inr}
 use Rattle.heap_terms.specs.declared.kinds.Kind.{Kind}
 use Rattle.heap_terms.specs.declared.kinds.Kind.TheVariants as kinds
-use Rattle.heap_terms.specs.Referents.{fields_at}
 use Rattle.heap_terms.specs.declared.cells.Value.{Value}
 use Rattle.heap_terms.specs.WellFormed.{IsLiving}
 use Rattle.heap_terms.specs.Spelling.{word_of}
-use Rattle.lisp_heap.specs.LivingWords.{AreFields, IsReferent, header_words}
-use Rattle.lisp_heap.specs.View.{View, heap_of}
+use Rattle.lisp_heap.specs.LivingWords.{AreFields, header_words}
+use Rattle.lisp_heap.specs.View.{heap_of}
 use Rattle.lisp_heap.specs.declared.referents.Span.{Span}
 use Rattle.lisp_heap.proofs.Spans.{HasFieldsKind, referent_fields, referent_no_fields, nowhere_fields, index_small}
 use Rattle.lisp_heap.proofs.world.World.fields.Goals as goal

@@ -1,10 +1,8 @@
 -- `get` reads a field.
-use Rattle.std.proofs.Common.{◌≡◌, ◌+◌, ◌<◌, ◌≤◌, ℕ, arith, subst, sym, refl, ap, ◌∙◌, get_or}
+use Rattle.std.proofs.Common.{arith, subst, sym, ◌∙◌, get_or}
 use Rattle.heap_terms.specs.declared.commands.Command.TheVariants as commands
 use Rattle.heap_terms.specs.Cells.{cell_value}
 use Rattle.heap_terms.specs.Heap.{zero_value}
-use Rattle.heap_terms.specs.Objects.{kind_of}
-use Rattle.lisp_heap.specs.LivingWords.{header_words}
 use Rattle.lisp_heap.specs.Plan.{IsPlan}
 use Rattle.lisp_heap.specs.View.{heap_of}
 use Rattle.lisp_heap.specs.declared.plan.Plan.{Plan}

@@ -1,12 +1,10 @@
 -- `nogc`: the count has room for one more.
-use Rattle.std.proofs.Common.{◌≡◌, ◌+◌, ◌<◌, ◌≤◌, ◌^◌, ℕ, length, arith, subst, sym, ap, ◌∙◌, Some}
+use Rattle.std.proofs.Common.{◌≡◌, arith, subst, sym, ap, ◌∙◌, Some}
 use Rattle.heap_terms.specs.declared.commands.Command.TheVariants as commands
 use Rattle.heap_terms.specs.Heap.{thread_at}
 use Rattle.heap_terms.specs.Histories.{command_at}
 use Rattle.lisp_heap.specs.View.{View, heap_of}
 use Rattle.lisp_heap.specs.declared.states.ThreadState.{ThreadState}
-use Rattle.lisp_heap.specs.WorldSound.{IsSound, view_of}
-use Rattle.lisp_heap.specs.declared.world.World.TheInside.{Inside}
 use Rattle.lisp_heap.proofs.Plans.{inhibited_is}
 use Rattle.lisp_heap.proofs.Soundness.{heap, states_length}
 use Rattle.lisp_heap.proofs.Stepping.{inhibits_small}

@@ -1,5 +1,5 @@
 -- The threads so far let the collection be made.
-use Rattle.std.proofs.Common.{◌≡◌, ℕ, ◌<◌, length, below_more, arith, sym, ◌∙◌}
+use Rattle.std.proofs.Common.{◌<◌, length, below_more, arith, sym, ◌∙◌}
 use Rattle.lisp_heap.specs.Ready.{Lets}
 use Rattle.lisp_heap.specs.View.{heap_of}
 use Rattle.lisp_heap.proofs.Letting.{lets}

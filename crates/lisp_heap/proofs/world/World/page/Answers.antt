@@ -1,4 +1,4 @@
-use Rattle.std.proofs.Common.{◌≡◌, ◌<◌, length, subst, sym, ap, ◌∙◌}
+use Rattle.std.proofs.Common.{◌<◌, length, subst, sym, ap, ◌∙◌}
 use Rattle.heap_terms.specs.Heap.{NamedHeap}
 use Rattle.page_views.specs.Labelled.{CanView}
 use Rattle.lisp_heap.specs.View.{View, heap_of}

@@ -1,12 +1,9 @@
 -- `pin`: the word of a cell goes on the pins, if there is room.
-use Rattle.std.proofs.Common.{◌≡◌, ◌<◌, ◌≤◌, ℕ, List, length, arith, subst, sym, ap, ◌∙◌}
+use Rattle.std.proofs.Common.{arith, subst, sym}
 use Rattle.heap_terms.specs.declared.commands.Command.TheVariants as commands
-use Rattle.heap_terms.specs.Heap.{thread_at}
 use Rattle.lisp_heap.specs.Plan.{IsPlan}
-use Rattle.lisp_heap.specs.View.{View, heap_of}
-use Rattle.lisp_heap.specs.WorldSound.{IsSound, view_of}
+use Rattle.lisp_heap.specs.View.{heap_of}
 use Rattle.lisp_heap.specs.declared.plan.Plan.{Plan}
-use Rattle.lisp_heap.specs.declared.world.World.TheInside.{Inside}
 use Rattle.lisp_heap.proofs.Plans.{pinned_none, pinned_is}
 use Rattle.lisp_heap.proofs.Soundness.{pins_length, pins_in}
 use Rattle.lisp_heap.proofs.WordReading.{thread_in}

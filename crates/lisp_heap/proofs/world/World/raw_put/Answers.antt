@@ -1,8 +1,7 @@
 -- `rawput` writes a raw word.
-use Rattle.std.proofs.Common.{◌≡◌, ◌+◌, ◌<◌, ◌≤◌, ℕ, arith, subst, sym, refl, ap, ◌∙◌, get_or}
+use Rattle.std.proofs.Common.{◌+◌, arith, subst, sym, ap}
 use Rattle.heap_terms.specs.declared.commands.Command.TheVariants as commands
 use Rattle.heap_terms.specs.Cells.{cell_value}
-use Rattle.heap_terms.specs.Heap.{zero_value}
 use Rattle.heap_terms.specs.Objects.{kind_of}
 use Rattle.lisp_heap.specs.LivingWords.{header_words}
 use Rattle.lisp_heap.specs.Plan.{IsPlan}

@@ -1,12 +1,12 @@
 -- Where the raw words of a referent lie.
-use Rattle.std.proofs.Common.{◌≡◌, ◌≢◌, ◌+◌, ◌<◌, ℕ, arith, subst, sym, refl, ap, ◌∙◌, Option, Some, None, ◌⊎◌, inl, inr}
+use Rattle.std.proofs.Common.{◌≡◌, ◌≢◌, ◌+◌, arith, subst, sym, refl, Option, ◌⊎◌, inl, inr}
 use Rattle.heap_terms.specs.declared.kinds.Kind.{Kind}
 use Rattle.heap_terms.specs.declared.kinds.Kind.TheVariants as kinds
 use Rattle.heap_terms.specs.declared.cells.Value.{Value}
 use Rattle.heap_terms.specs.WellFormed.{IsLiving}
 use Rattle.heap_terms.specs.Spelling.{word_of}
 use Rattle.lisp_heap.specs.LivingWords.{AreRaws}
-use Rattle.lisp_heap.specs.View.{View, heap_of}
+use Rattle.lisp_heap.specs.View.{heap_of}
 use Rattle.lisp_heap.specs.declared.referents.Span.{Span}
 use Rattle.lisp_heap.proofs.Spans.{referent_raws, referent_no_raws, nowhere_raws, index_small}
 use Rattle.lisp_heap.proofs.world.World.raws.Goals as goal

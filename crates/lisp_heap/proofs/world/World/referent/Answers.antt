@@ -1,5 +1,5 @@
 -- To what the word of a living value refers.
-use Rattle.std.proofs.Common.{◌≡◌, ◌<◌, ℕ, length, arith, subst, sym, refl, ap, ◌∙◌, Option, Some, None, slice_index}
+use Rattle.std.proofs.Common.{◌≡◌, ℕ, arith, subst, sym, refl, ap, ◌∙◌, Option, Some, None, slice_index}
 use Rattle.heap_terms.specs.declared.cells.Value.{Value}
 use Rattle.heap_terms.specs.declared.kinds.Kind.{Kind}
 use Rattle.heap_terms.specs.declared.kinds.Kind.TheVariants as kinds
@@ -8,7 +8,6 @@ use Rattle.heap_terms.specs.Referents.{name_in}
 use Rattle.heap_terms.specs.WellFormed.{IsLiving}
 use Rattle.heap_terms.specs.Spelling.{word_of}
 use Rattle.lisp_words.specs.Tagged.{IsHeader, tag_bits}
-use Rattle.lisp_words.specs.declared.pointers.Lowtag.TheVariants as lowtags
 use Rattle.lisp_heap.specs.LivingWords.{IsReferent, IsWord}
 use Rattle.lisp_heap.specs.WorldSound.{view_of}
 use Rattle.lisp_heap.specs.View.{View, heap_of}

@@ -1,13 +1,10 @@
 -- `unpin`: the latest pin is taken off, or there is none.
-use Rattle.std.proofs.Common.{◌≡◌, ◌<◌, ◌≤◌, ℕ, List, length, arith, subst, sym, ap, ◌∙◌}
+use Rattle.std.proofs.Common.{length, arith, subst, sym}
 use Rattle.std.proofs.lemmas.Bool.{eqb-true, eqb-false}
 use Rattle.heap_terms.specs.declared.commands.Command.TheVariants as commands
-use Rattle.heap_terms.specs.Heap.{thread_at}
 use Rattle.lisp_heap.specs.Plan.{IsPlan}
-use Rattle.lisp_heap.specs.View.{View, heap_of}
-use Rattle.lisp_heap.specs.WorldSound.{IsSound, view_of}
+use Rattle.lisp_heap.specs.View.{heap_of}
 use Rattle.lisp_heap.specs.declared.plan.Plan.{Plan}
-use Rattle.lisp_heap.specs.declared.world.World.TheInside.{Inside}
 use Rattle.lisp_heap.proofs.Plans.{unpinned_none, unpinned_is}
 use Rattle.lisp_heap.proofs.Soundness.{pins_length, pins_in}
 use Rattle.lisp_heap.proofs.WordReading.{thread_in}

@@ -1,5 +1,4 @@
-use Rattle.std.proofs.Common.{◌≡◌, ◌<◌, ◌≤◌, length, subst, sym, ap, ◌∙◌, arith}
-use Rattle.heap_terms.specs.declared.answers.Answer.{Answer}
+use Rattle.std.proofs.Common.{◌<◌, ◌≤◌, length, subst, sym, ap, arith}
 use Rattle.heap_terms.specs.declared.answers.Answer.TheVariants as answers
 use Rattle.heap_terms.specs.declared.answers.PageView.{PageView}
 use Rattle.heap_terms.specs.declared.commands.Command.TheVariants as commands
