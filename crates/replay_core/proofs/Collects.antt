@@ -1,21 +1,17 @@
 -- The collection of a thread that is alone: nobody keeps it from being made, and the parcels are ready again after it.
-use Rattle.std.proofs.Common.{◌≡◌, ℕ, ◌<◌, List, length, map, Bool, true, false, refl, sym, ◌∙◌, ap, subst, arith, get_or, zero-add}
+use Rattle.std.proofs.Common.{◌≡◌, ℕ, ◌<◌, List, length, map, true, refl, sym, ◌∙◌, ap, arith, get_or, zero-add}
 use Rattle.std.specs.List.{range_with_len}
 use Rattle.std.proofs.lemmas.Bool.{false≢true}
 use Rattle.std.proofs.lemmas.List.{get_or-map, length-map, ext_get_or}
 use Rattle.std.proofs.lemmas.List.FromFn.{length-range_with_len, get_or-range_with_len}
 use Rattle.heap_terms.specs.declared.pages.Next.{Next}
 use Rattle.heap_terms.specs.declared.pages.Next.TheVariants as nexts
-use Rattle.heap_terms.specs.declared.phases.Phase.{Phase}
-use Rattle.heap_terms.specs.declared.phases.Phase.TheVariants.{Collecting}
-use Rattle.heap_terms.specs.Heap.{NamedHeap, thread_at}
-use Rattle.heap_terms.specs.MachineTurns.{phase_of}
+use Rattle.heap_terms.specs.Heap.{thread_at}
 use Rattle.heap_terms.specs.Phases.{collects}
-use Rattle.lisp_heap.specs.Agreement.{Agrees}
 use Rattle.lisp_heap.specs.ParcelView.{ParcelView, empty_parcel}
 use Rattle.lisp_heap.specs.Ready.{AreByOwner, IsLowestBusy, owner_of}
 use Rattle.lisp_heap.specs.Ready as ready
-use Rattle.lisp_heap.specs.View.{View, heap_of, next_of}
+use Rattle.lisp_heap.specs.View.{View, heap_of}
 use Rattle.replay_core.specs.Parcels.{AreReady}
 
 -- what is due is a collection

@@ -1,5 +1,5 @@
 -- The parts of a machine after an event inside a section.
-use Rattle.std.proofs.Common.{◌≡◌, ℕ, ◌<◌, List, length, Bool, true, false, sym, ◌∙◌, subst, ap, set, get_or}
+use Rattle.std.proofs.Common.{◌≡◌, ℕ, ◌<◌, List, length, Bool, sym, ◌∙◌, subst, ap, set, get_or}
 use Rattle.std.specs.Prelude.{if◌then◌else◌}
 use Rattle.heap_terms.specs.declared.phases.Phase.{Phase}
 use Rattle.heap_terms.specs.declared.phases.Phase.TheVariants.{Inside, Leaving}
@@ -12,9 +12,9 @@ use Rattle.lisp_heap.specs.View.{View, heap_of}
 use Rattle.machine_laws.specs.Orderly.{IsOrderly}
 use Rattle.replay_core.specs.declared.machine.Machine.TheInside.{Inside as Parts}
 use Rattle.replay_core.specs.MachineSound.{view_of, IsSound}
-use Rattle.replay_core.specs.MachineView.{MachineView, program_of, configuration_of}
+use Rattle.replay_core.specs.MachineView.{configuration_of}
 use Rattle.replay_core.specs.Parcels.{AreReady}
-use Rattle.replay_core.specs.Stepping.{EventDone, HappensInside}
+use Rattle.replay_core.specs.Stepping.{HappensInside}
 use Rattle.replay_core.proofs.Asking.{Asked}
 use Rattle.replay_core.proofs.Ready.{ready_after}
 use Rattle.replay_core.proofs.Turning.{seen, inside_done, event_orderly}

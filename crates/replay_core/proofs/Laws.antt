@@ -1,12 +1,8 @@
 -- What is needed of lawful histories of valid programs.
-use Rattle.std.proofs.Common.{◌≡◌, ℕ, ◌<◌, ◌^◌, List, length, Bool, true, false, refl, sym, ◌∙◌, ap, arith}
-use Rattle.std.proofs.lemmas.Bool.{false≢true}
+use Rattle.std.proofs.Common.{◌<◌, ◌^◌, List, length, arith}
 use Rattle.heap_terms.specs.declared.events.Event.{Event}
-use Rattle.heap_terms.specs.declared.pages.Next.{Next}
-use Rattle.heap_terms.specs.declared.pages.Next.TheVariants as nexts
 use Rattle.heap_terms.specs.declared.programs.Program.{Program}
-use Rattle.heap_terms.specs.Histories.{next, Lawful, replay}
-use Rattle.heap_terms.specs.Phases.{collects}
+use Rattle.heap_terms.specs.Histories.{Lawful}
 use Rattle.heap_terms.specs.Valid.{IsValid}
 use Rattle.heap_laws.proofs.NextEvents.{history_few}
 

@@ -1,5 +1,5 @@
 -- Turns one after the other.
-use Rattle.std.proofs.Common.{◌≡◌, ℕ, zero, suc, ◌+◌, ◌<◌, ◌≤◌, List, [], ◌∷◌, ◌++◌, length, Option, Some, None, Bool, true, false, refl, sym, ◌∙◌, subst, ap, inl, inr, arith, get_or, add-one, add-zero, zero-add, append_assoc, append-nil}
+use Rattle.std.proofs.Common.{◌≡◌, ℕ, zero, suc, ◌+◌, List, [], ◌∷◌, ◌++◌, length, Option, Some, None, refl, sym, ◌∙◌, subst, ap, arith, add-one, add-zero, zero-add, append_assoc, append-nil}
 use Rattle.std.proofs.lemmas.List.{take-append-drop}
 use Rattle.std.specs.List.{range_with_len}
 use Rattle.std.specs.Prelude.{take, drop}
@@ -9,10 +9,7 @@ use Rattle.heap_terms.specs.declared.programs.Program.{Program}
 use Rattle.heap_terms.specs.declared.steps.ReplayLine.{ReplayLine}
 use Rattle.heap_terms.specs.MachineTurns.{Configuration, phase_of, is_due, Does, IsTurn}
 use Rattle.heap_terms.specs.Phases.{task_at}
-use Rattle.heap_terms.specs.Runs.{AreTurns, IsFirst, rounds_of}
-use Rattle.heap_terms.specs.Valid.{IsValid}
-use Rattle.machine_laws.specs.Measure.{measure}
-use Rattle.machine_laws.specs.Orderly.{IsOrderly}
+use Rattle.heap_terms.specs.Runs.{AreTurns, rounds_of}
 use Rattle.replay_core.specs.MachineView.{MachineView, program_of, configuration_of}
 use Rattle.replay_core.specs.Runs.{Turned, Keeps, TurnedKept, MoreRounds}
 use Rattle.replay_core.specs.Stepping.{AllEnded, TurnDone}

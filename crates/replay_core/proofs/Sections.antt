@@ -1,20 +1,18 @@
 -- Whether a section goes on after an event.
 use Rattle.std.proofs.Common.{◌≡◌, ◌≢◌, ℕ, Bool, true, false, refl, sym, ◌∙◌, ap, subst}
-use Rattle.std.proofs.lemmas.Bool.{false≢true, true≢false}
 use Rattle.std.specs.Prelude.{◌==◌, ◌||◌, not, if◌then◌else◌, option_map}
 use Rattle.heap_terms.specs.declared.events.Event.{Event}
 use Rattle.heap_terms.specs.declared.events.Event.TheVariants.{Did, Opened, Collected, Ended}
 use Rattle.heap_terms.specs.declared.kinds.Kind.{Kind}
 use Rattle.heap_terms.specs.declared.kinds.PageType.{PageType}
 use Rattle.heap_terms.specs.declared.kinds.PageType.TheVariants as types
-use Rattle.heap_terms.specs.declared.pages.Next.{Next}
 use Rattle.heap_terms.specs.declared.pages.Next.TheVariants as nexts
 use Rattle.heap_terms.specs.declared.programs.Program.{Program}
 use Rattle.heap_terms.specs.Heap.{NamedHeap, thread_at}
-use Rattle.heap_terms.specs.Histories.{IsNext, IsAnswer, IsOpening, next, thread_of, wish_at, wished_size, command_at}
-use Rattle.heap_terms.specs.MachineTurns.{opens, stays_inside}
-use Rattle.heap_terms.specs.Regions.{is_small, Wish, Nothing, Make, wish_of, pages_needed, HasNoRun, IsFreeRun, IsLowestRun}
-use Rattle.lisp_heap.specs.Agreement.{HasRunFor, Lends}
+use Rattle.heap_terms.specs.Histories.{IsNext, IsOpening, next, thread_of, wish_at, wished_size, command_at}
+use Rattle.heap_terms.specs.MachineTurns.{opens}
+use Rattle.heap_terms.specs.Regions.{is_small, Wish, Nothing, Make, wish_of, pages_needed, HasNoRun, IsFreeRun}
+use Rattle.lisp_heap.specs.Agreement.{HasRunFor}
 use Rattle.lisp_heap.specs.Events.{Happens}
 use Rattle.heap_terms.specs.Layout.{page_type_of, size_of}
 use Rattle.lisp_heap.specs.ParcelView.{ParcelView, region_built, small_built, with_built}

@@ -1,10 +1,8 @@
 -- One turn of a machine, from what its parts did.
-use Rattle.std.proofs.Common.{◌≡◌, ◌≢◌, ℕ, suc, ◌+◌, ◌<◌, ◌≤◌, ◌↔◌, List, [], ◌∷◌, ◌++◌, length, Bool, true, false, inl, inr, refl, sym, ◌∙◌, ap, subst, arith, set, get_or, ◌-◌}
-use Rattle.std.proofs.lemmas.Bool.{cases_Bool, false≢true, true≢false}
+use Rattle.std.proofs.Common.{◌≡◌, ◌≢◌, ℕ, ◌<◌, ◌↔◌, List, [], ◌∷◌, length, Bool, true, false, inl, inr, refl, sym, ◌∙◌, ap, subst, set, get_or, ◌-◌}
+use Rattle.std.proofs.lemmas.Bool.{false≢true}
 use Rattle.std.proofs.lemmas.List.{set-get_or}
-use Rattle.std.specs.Prelude.{◌==◌, not, if◌then◌else◌, OnOk}
-use Rattle.heap_terms.specs.declared.events.Event.{Event}
-use Rattle.heap_terms.specs.declared.faults.Memory.{Memory}
+use Rattle.std.specs.Prelude.{◌==◌, if◌then◌else◌}
 use Rattle.heap_terms.specs.declared.phases.Phase.{Phase}
 use Rattle.heap_terms.specs.declared.phases.Phase.TheVariants.{Parked, Outside, Inside, Leaving, Parking, Posting, Looking, Collecting, Releasing, Returning, Ended}
 use Rattle.heap_terms.specs.declared.phases.Task.{Task}
@@ -19,21 +17,18 @@ use Rattle.heap_terms.specs.declared.steps.WordStep.TheVariants.{Resume, Enter, 
 use Rattle.heap_terms.specs.Heap.{thread_at}
 use Rattle.heap_terms.specs.Histories.{replay}
 use Rattle.heap_terms.specs.MachineTurns.{Configuration, phase_of, is_due, has_ended, stays_inside, answer_in, step_lines, IsTurn, Does, Walks, HasEvent}
-use Rattle.heap_terms.specs.Phases.{collects, is_over, task_at, walked, happened, releasing_from, went}
+use Rattle.heap_terms.specs.Phases.{collects, task_at, walked, happened, releasing_from, went}
 use Rattle.heap_terms.specs.Valid.{IsValid}
 use Rattle.heap_terms.specs.WordMachine.{has, words_after, answer_at, answer}
-use Rattle.heap_laws.specs.Limited.{IsLimited}
 use Rattle.heap_laws.proofs.EventSteps.{limited}
 use Rattle.lisp_heap.specs.Events.{Happens}
 use Rattle.lisp_heap.specs.View.{View, heap_of, next_of}
-use Rattle.machine_laws.specs.Fitting.{Fits}
-use Rattle.machine_laws.specs.Order.{IsPlaced, holds}
-use Rattle.machine_laws.specs.Orderly.{IsOrderly, word_in, inhibits_in}
+use Rattle.machine_laws.specs.Orderly.{IsOrderly, word_in}
 use Rattle.machine_laws.proofs.EventFacts.{over_is}
 use Rattle.machine_laws.proofs.FitsKept.{turn_orderly}
-use Rattle.machine_laws.proofs.Steps.{may_step, turn_most, parked_word, placed_in}
+use Rattle.machine_laws.proofs.Steps.{parked_word}
 use Rattle.replay_core.specs.MachineView.{MachineView, program_of, configuration_of}
-use Rattle.replay_core.specs.Stepping.{HappensInside, StepDone, EventDone, TurnDone, IsDone, IsWaiting, IsWaitingAt}
+use Rattle.replay_core.specs.Stepping.{HappensInside, StepDone, EventDone, TurnDone, IsWaiting, IsWaitingAt}
 
 -- a machine's view, from its parts
 abbrev pub seen : View → ℕ → List ℕ → List Phase → MachineView

@@ -1,6 +1,5 @@
 -- A whole run.
-use Rattle.std.proofs.Common.{◌≡◌, ℕ, List, [], ◌++◌, length, Option, Some, None, refl, ap, sym, ◌∙◌, subst}
-use Rattle.heap_terms.specs.declared.events.Event.{Event}
+use Rattle.std.proofs.Common.{◌≡◌, List, [], ◌++◌, length, Option, Some, ap, sym, subst}
 use Rattle.heap_terms.specs.declared.programs.Program.{Program}
 use Rattle.heap_terms.specs.declared.steps.ReplayLine.{ReplayLine}
 use Rattle.heap_terms.specs.MachineTurns.{Configuration, machine_start}

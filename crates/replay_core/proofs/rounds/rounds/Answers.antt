@@ -1,4 +1,4 @@
-use Rattle.std.proofs.Common.{◌≡◌, ℕ, ◌+◌, ◌<◌, ◌≤◌, length, inl, inr, refl, subst, sym, ap, ◌∙◌, arith}
+use Rattle.std.proofs.Common.{◌+◌, ◌<◌, length, inl, inr, subst, sym, ◌∙◌, arith}
 use Rattle.std.proofs.lemmas.Bool.{true≢false}
 use Rattle.heap_terms.specs.declared.programs.Program.{Program}
 use Rattle.heap_terms.specs.Runs.{AreTurns, rounds_of}
@@ -7,7 +7,7 @@ use Rattle.machine_laws.specs.Measure.{measure}
 use Rattle.machine_laws.specs.Orderly.{IsOrderly}
 use Rattle.machine_laws.proofs.Complete.{rounds_named}
 use Rattle.machine_laws.proofs.Rounds.{range_named, round_or_end, turns_never_rise, turns_orderly}
-use Rattle.replay_core.specs.MachineView.{MachineView, program_of, configuration_of}
+use Rattle.replay_core.specs.MachineView.{program_of, configuration_of}
 use Rattle.replay_core.proofs.Many.{TurnedKept-round, TurnedKept-rounds}
 use Rattle.replay_core.proofs.rounds.rounds.Goals as goal
 

@@ -2,7 +2,7 @@ use Rattle.std.proofs.Common.{◌≡◌, ℕ, ◌<◌, ◌+◌, List, [], ◌∷
 use Rattle.std.proofs.lemmas.List.{take_more}
 use Rattle.heap_terms.specs.declared.programs.Program.{Program}
 use Rattle.lisp_heap.specs.View.{View}
-use Rattle.replay_core.specs.MachineView.{MachineView, program_of}
+use Rattle.replay_core.specs.MachineView.{program_of}
 use Rattle.replay_core.specs.Runs.{TurnedKept}
 use Rattle.replay_core.proofs.Many.{TurnedKept-append, TurnedKept-whole}
 use Rattle.replay_core.proofs.rounds.schedule_turns.Goals as goal

@@ -1,10 +1,10 @@
-use Rattle.std.proofs.Common.{◌≡◌, ℕ, Bool, sym, ◌∙◌, subst, ap}
+use Rattle.std.proofs.Common.{ℕ, ◌∙◌, subst, ap}
 use Rattle.std.specs.Prelude.{◌==◌, not}
 use Rattle.heap_terms.specs.Heap.{thread_at}
 use Rattle.lisp_heap.specs.declared.allocating.Lent.{Lent}
 use Rattle.lisp_heap.specs.declared.allocating.Lent.TheVariants as lents
 use Rattle.lisp_heap.specs.Agreement.{Lends}
-use Rattle.lisp_heap.specs.View.{View, heap_of}
+use Rattle.lisp_heap.specs.View.{heap_of}
 use Rattle.replay_core.proofs.Sections.{inside_opened, inside_exhausted}
 use Rattle.replay_core.proofs.turns.lend.Goals as goal
 

@@ -1,10 +1,9 @@
-use Rattle.std.proofs.Common.{◌≡◌, ℕ, Bool, sym, ◌∙◌, subst, ap}
+use Rattle.std.proofs.Common.{◌≡◌, ℕ, sym, ◌∙◌, subst, ap}
 use Rattle.std.specs.Prelude.{◌==◌, not}
-use Rattle.heap_terms.specs.declared.pages.Next.{Next}
 use Rattle.heap_terms.specs.declared.pages.Next.TheVariants as nexts
 use Rattle.heap_terms.specs.Heap.{thread_at}
 use Rattle.lisp_heap.specs.Events.{Happens}
-use Rattle.lisp_heap.specs.View.{View, heap_of}
+use Rattle.lisp_heap.specs.View.{heap_of}
 use Rattle.replay_core.proofs.Sections.{inside_unless_open}
 use Rattle.replay_core.proofs.turns.perform.Goals as goal
 

@@ -1,5 +1,5 @@
 -- The collection of a thread that is alone.
-use Rattle.std.proofs.Common.{◌≡◌, ◌<◌, ℕ, List, length, set, Result, Ok, Err, true, sym, ◌∙◌, subst, ap, refl}
+use Rattle.std.proofs.Common.{◌≡◌, ℕ, List, length, set, Result, Err, sym, ◌∙◌, subst, ap, refl}
 use Rattle.std.proofs.lemmas.List.{with_items_is}
 use Rattle.heap_terms.specs.declared.phases.Phase.{Phase}
 use Rattle.heap_terms.specs.declared.phases.Phase.TheVariants.{Collecting}
@@ -12,13 +12,12 @@ use Rattle.lisp_heap.specs.Events.{Happens}
 use Rattle.lisp_heap.specs.ParcelView.{ParcelView}
 use Rattle.lisp_heap.specs.Ready.{AreByOwner, IsLowestBusy, TellsBusy}
 use Rattle.lisp_heap.specs.declared.collecting.CollectFault.{CollectFault}
-use Rattle.lisp_heap.specs.View.{View, heap_of}
+use Rattle.lisp_heap.specs.View.{heap_of}
 use Rattle.machine_laws.specs.Laws.{IsAlone}
 use Rattle.machine_laws.proofs.Steps.{alone}
 use Rattle.replay_core.specs.MachineSound.{IsSound, view_of}
-use Rattle.replay_core.specs.MachineView.{MachineView, program_of, configuration_of}
+use Rattle.replay_core.specs.MachineView.{configuration_of}
 use Rattle.replay_core.specs.Parcels.{AreReady}
-use Rattle.replay_core.specs.Stepping.{EventDone}
 use Rattle.replay_core.specs.declared.machine.Machine.TheInside.{Inside}
 use Rattle.replay_core.proofs.Asking.{Asked, asked}
 use Rattle.replay_core.proofs.Collects.{by_owner, collection_of, never_busy, ready_again}
@@ -61,7 +60,7 @@ invariant_of-self c =
     let program = ap (λ (p : Program). length p.threads) h.program in
     let ready_again_now = ready_again new c.collect.new.parcels c.in-Ok.ensures.ready in
     let same_length : length c.collect.new.parcels ≡ s.parcels.len =
-        ready_again_now.count ∙ program ∙ sym c.self.invariant.ready.count ∙ sym (ap (λ (ps : List ParcelView). length ps) c.as_mut_slice.ensures.value) ∙ c.as_mut_slice.ensures.len in
+    ready_again_now.count ∙ program ∙ sym c.self.invariant.ready.count ∙ sym (ap (λ (ps : List ParcelView). length ps) c.as_mut_slice.ensures.value) ∙ c.as_mut_slice.ensures.len in
     let same = phases ∙ ap (λ (n : ℕ). set s.phases t (releasing_from n t 0)) program in
     record {
       valid = subst (λ (p : Program). IsValid p) (sym h.program) c.self.invariant.valid;

@@ -1,12 +1,10 @@
-use Rattle.std.proofs.Common.{◌≡◌, ℕ, ◌<◌, ◌≤◌, length, false, inl, inr, sym, ◌∙◌, subst, ap, arith, get_or}
-use Rattle.std.proofs.lemmas.Bool.{false≢true, cases_lt}
-use Rattle.std.proofs.lemmas.List.{get_or_default, get_or_past}
-use Rattle.heap_terms.specs.declared.phases.Phase.{Phase}
+use Rattle.std.proofs.Common.{◌≡◌, ◌<◌, length, sym, ◌∙◌, subst, arith}
+use Rattle.std.proofs.lemmas.Bool.{false≢true}
+use Rattle.std.proofs.lemmas.List.{get_or_default}
 use Rattle.heap_terms.specs.declared.phases.Phase.TheVariants.{Ended}
 use Rattle.heap_terms.specs.MachineTurns.{phase_of}
 use Rattle.replay_core.specs.MachineSound.{view_of}
 use Rattle.replay_core.specs.MachineView.{MachineView, configuration_of}
-use Rattle.replay_core.specs.Stepping.{AllEnded}
 use Rattle.replay_core.proofs.machine.Machine.has_ended.Goals as goal
 
 pub returns-in_default-clause-ended : goal.returns-in_default-clause-ended

@@ -1,7 +1,6 @@
-use Rattle.std.proofs.Common.{◌≡◌, ℕ, Bool, true, false, sym, ◌∙◌, subst, refl}
+use Rattle.std.proofs.Common.{ℕ, Bool, true, false, subst, refl}
 use Rattle.heap_terms.specs.declared.phases.Phase.TheVariants.{Inside}
 use Rattle.heap_terms.specs.declared.phases.Task.TheVariants.{Happen}
-use Rattle.lisp_heap.specs.View.{View}
 use Rattle.replay_core.specs.MachineSound.{view_of}
 use Rattle.replay_core.specs.Stepping.{HappensInside}
 use Rattle.replay_core.proofs.Asking.{asked}

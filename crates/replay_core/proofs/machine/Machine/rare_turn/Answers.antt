@@ -1,10 +1,8 @@
-use Rattle.std.proofs.Common.{◌≡◌, ℕ, ◌∷◌, [], sym, ◌∙◌, subst, ap}
+use Rattle.std.proofs.Common.{sym, ◌∙◌}
 use Rattle.std.proofs.lemmas.Result.{on_ok_weaker}
-use Rattle.heap_terms.specs.declared.phases.Task.{Task}
-use Rattle.heap_terms.specs.declared.phases.Task.TheVariants.{Walk, Happen, Rest}
+use Rattle.heap_terms.specs.declared.phases.Task.TheVariants.{Walk, Happen}
 use Rattle.heap_terms.specs.MachineTurns.{step_lines}
-use Rattle.replay_core.specs.MachineView.{MachineView}
-use Rattle.replay_core.specs.Stepping.{IsDone, EventDone}
+use Rattle.replay_core.specs.Stepping.{EventDone}
 use Rattle.replay_core.proofs.Asking.{found_task}
 use Rattle.replay_core.proofs.Turning.{step_turn, event_turn}
 use Rattle.replay_core.proofs.machine.Machine.rare_turn.Goals as goal

@@ -1,4 +1,4 @@
-use Rattle.std.proofs.Common.{◌≡◌, ℕ, ◌↔◌, sym, ◌∙◌, subst, ap}
+use Rattle.std.proofs.Common.{sym, ◌∙◌, subst}
 use Rattle.heap_terms.specs.declared.phases.Task.TheVariants.{Walk}
 use Rattle.machine_laws.specs.Orderly.{IsOrderly}
 use Rattle.replay_core.specs.MachineView.{MachineView, program_of, configuration_of}

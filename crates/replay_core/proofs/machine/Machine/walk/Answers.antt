@@ -1,12 +1,10 @@
-use Rattle.std.proofs.Common.{◌≡◌, ℕ, ◌<◌, ◌≤◌, length, sym, ◌∙◌, subst, arith}
-use Rattle.heap_terms.specs.declared.phases.Phase.{Phase}
+use Rattle.std.proofs.Common.{subst}
 use Rattle.heap_terms.specs.declared.phases.Task.TheVariants.{Walk}
-use Rattle.machine_laws.specs.Order.{IsPlaced}
-use Rattle.machine_laws.proofs.Steps.{may_step, turn_most, placed_in}
+use Rattle.machine_laws.proofs.Steps.{may_step}
 use Rattle.replay_core.specs.MachineSound.{view_of}
-use Rattle.replay_core.specs.MachineView.{MachineView, program_of, configuration_of}
+use Rattle.replay_core.specs.MachineView.{MachineView, configuration_of}
 use Rattle.replay_core.specs.Stepping.{StepDone}
-use Rattle.replay_core.proofs.Asking.{Asked, asked}
+use Rattle.replay_core.proofs.Asking.{asked}
 use Rattle.replay_core.proofs.Turning.{seen, step_done, walk_orderly}
 use Rattle.replay_core.proofs.machine.Machine.walk.Goals as goal
 

@@ -1,4 +1,3 @@
-use Rattle.std.proofs.Common.{◌≡◌, ℕ}
 use Rattle.heap_terms.specs.declared.phases.Task.TheVariants.{Walk}
 use Rattle.heap_terms.specs.MachineTurns.{step_lines}
 use Rattle.replay_core.proofs.Turning.{step_turn, task_of}
