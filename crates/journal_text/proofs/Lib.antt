@@ -8,6 +8,7 @@ pub mod Exact
 pub mod Exactly
 pub mod HexDigits
 pub mod Joined
+pub mod Decided
 pub mod LineTexts
 pub mod Lists
 pub mod Loop
