@@ -16,6 +16,8 @@ pub mod Machine
 pub mod Numerals
 pub mod Pieces
 pub mod PiecesAgain
+pub mod PlainFields
+pub mod PlainLines
 pub mod Prefixes
 pub mod Sequences
 pub mod Solids

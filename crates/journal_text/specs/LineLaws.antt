@@ -1,6 +1,6 @@
 -- That each line is decided by itself and by what is still open from the lines before it. What is open is where the last
 -- line left the journal, and how many events are whole; the lines themselves are forgotten.
-use Rattle.std.specs.Prelude.{◌≡◌, ◌↔◌, ℕ, ◌<◌, ◌^◌, List, [], ◌∷◌, ◌++◌, length, flat_map, Option, Some, None, IsSome}
+use Rattle.std.specs.Prelude.{◌≡◌, ◌↔◌, ℕ, ◌<◌, ◌^◌, List, [], ◌∷◌, ◌++◌, length, flat_map, Option, Some, IsSome}
 use Rattle.std.specs.List.{AllByRecursion, slice_split}
 use Rattle.heap_terms.specs.Text.{line}
 use Rattle.journal_text.specs.Builder.{State, add, start}
