@@ -8,6 +8,7 @@ pub mod Exact
 pub mod Exactly
 pub mod HexDigits
 pub mod Joined
+pub mod Decided
 pub mod LineTexts
 pub mod Lists
 pub mod Loop
@@ -15,6 +16,8 @@ pub mod Machine
 pub mod Numerals
 pub mod Pieces
 pub mod PiecesAgain
+pub mod PlainFields
+pub mod PlainLines
 pub mod Prefixes
 pub mod Sequences
 pub mod Solids

@@ -290,7 +290,7 @@ contents_are ps good = record { contents = map content ps; plain = plain ps good
     whole [] good = refl
     whole (p ∷ ps) good = λ i. text_joined p good.0 i ++ whole ps good.1 i
 
-reading_begins : (bytes rest : List ℕ) (number : ℕ) (s : State) → length bytes < 2 ^ 32 → (r : Reading bytes rest number s) → BeginsJournal (flat_map piece_text r.lines)
+pub reading_begins : (bytes rest : List ℕ) (number : ℕ) (s : State) → length bytes < 2 ^ 32 → (r : Reading bytes rest number s) → BeginsJournal (flat_map piece_text r.lines)
 reading_begins bytes rest number s small r = begins s r.lines r.good r.takes (omega (arith, lines_long r.lines r.good, ap length r.whole, length-append (flat_map piece_text r.lines) rest))
 
 pub reading_bad : (bytes rest content after : List ℕ) (number : ℕ) (s : State) → length bytes < 2 ^ 32 → rest ≡ content ++ (10 ∷ after) → HasNoLf content →

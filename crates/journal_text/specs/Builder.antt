@@ -12,7 +12,11 @@ use Rattle.journal_text.specs.declared.parsing.pieces.Piece.{Piece}
 use Rattle.journal_text.specs.declared.parsing.pieces.Piece.TheVariants as pieces
 use Rattle.journal_text.specs.declared.parsing.stages.Stage.{Stage}
 use Rattle.journal_text.specs.declared.parsing.stages.Stage.TheVariants as stages
+use Rattle.std.specs.List.{slice_split}
+use Rattle.journal_text.specs.Cursors.{is_space}
+use Rattle.journal_text.specs.Journals.{HasNoLf}
 use Rattle.journal_text.specs.LineReading.{◌>>=◌}
+use Rattle.journal_text.specs.PieceReading.{read_line}
 
 -- the events that are whole, and the collection and the pass that may be open
 pub record State : Type 0 where
@@ -151,3 +155,17 @@ Closed old new (Err faults.Memory) = Unit {0}
 -- the same of the line as it was read
 abbrev pub AddsLine : State → Option Piece → State → Result (Unit {0}) LineFault → Type 0
 AddsLine old told new result = Adds (told >>= λ piece. add old piece) new result
+
+-- the first line of the bytes was taken, and these stand behind it
+pub record TakesLine (old : State) (bytes after : List ℕ) (new : State) : Type 0 where
+  pub content : List ℕ
+  pub text : bytes ≡ content ++ 10 ∷ after
+  pub adds : (read_line (slice_split is_space content) >>= λ piece. add old piece) ≡ Some new
+
+-- the first line of the bytes was not taken
+pub record StopsAt (old : State) (bytes : List ℕ) (new : State) (fault : LineFault) : Type 0 where
+  pub content : List ℕ
+  pub after : List ℕ
+  pub text : bytes ≡ content ++ 10 ∷ after
+  pub plain : HasNoLf content
+  pub adds : AddsLine old (read_line (slice_split is_space content)) new (Err fault)

@@ -10,6 +10,6 @@ mod printing;
 mod tests;
 
 pub use faults::JournalFault;
-pub use laws::texts_are_distinct;
+pub use laws::{lines_are_decided, texts_are_distinct};
 pub use parsing::parse;
 pub use printing::{print, print_words};

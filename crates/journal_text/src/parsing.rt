@@ -1,9 +1,9 @@
 //! Reading a journal.
 
-ghost use Rattle.std.specs.Prelude.{ℕ, List, ◌≡◌, ◌≢◌, ◌-◌, ◌∷◌, ◌++◌, ◌<◌, ◌≤◌, ◌^◌, length, slice_index, IfOk, IfErr, MatchOption, MatchResult};
+ghost use Rattle.std.specs.Prelude.{List, ◌≡◌, ◌-◌, ◌<◌, ◌^◌, length, IfOk, IfErr, MatchResult};
 ghost use Rattle.heap_terms.specs.declared.events.Event.{Event as HeapEvent};
 ghost use Rattle.journal_text.specs.declared.faults.JournalFault.TheVariants.{Memory};
-ghost use Rattle.journal_text.specs.Journals.{HasNoLf, IsFault, IsJournal};
+ghost use Rattle.journal_text.specs.Journals.{IsFault, IsJournal};
 
 mod answers;
 mod commands;
@@ -14,6 +14,7 @@ mod lines;
 mod numbers;
 mod openings;
 mod pieces;
+mod plain;
 mod reader;
 mod records;
 mod rows;
@@ -25,32 +26,6 @@ use crate::faults::JournalFault;
 use heap_terms::{Event, Why};
 use reader::Reader;
 use std::alloc::Global;
-
-/// Where the first LF stands, or how many bytes there are.
-fn end_of_line(bytes: &[u8]) -> usize
-    ensures within { result ≤ length bytes.now }
-    ensures before { (k : ℕ) → k < result → slice_index bytes.now k ≢ 10 }
-    ensures found { result < length bytes.now → slice_index bytes.now result ≡ 10 }
-{
-    let mut len = 0;
-    while len < bytes.len() && bytes[len] != b'\n' {
-        len += 1;
-    }
-    len
-}
-
-/// The first line without its LF, and the bytes behind it.
-fn first_line(bytes: &[u8]) -> Option<(&[u8], &[u8])>
-    ensures { MatchOption result (HasNoLf bytes.now) (λ p. HasNoLf p.0.now × (bytes.now ≡ p.0.now ++ 10 ∷ p.1.now)) }
-{
-    let len = end_of_line(bytes);
-    if len == bytes.len() {
-        return None;
-    }
-    let (content, after) = bytes.split_at(len);
-    let (_, behind) = after.split_at(1);
-    Some((content, behind))
-}
 
 /// The events that a journal tells, or where the bytes are no journal: the first line that with all
 /// lines before it begins none, or the end, where more would have to follow. The bytes are read
@@ -76,12 +51,15 @@ fn events_of(alloc: Global, bytes: &[u8]) -> Result<Vec<Event>, JournalFault>
     let mut reader = Reader::new(alloc);
     let mut rest = bytes;
     let mut number: u32 = 1;
-    while let Some((content, behind)) = first_line(rest) {
-        if let Err(fault) = reader.line(alloc, content) {
-            return Err(fault.at(number));
+    loop {
+        match reader.take_line(alloc, rest) {
+            Ok(Some(behind)) => {
+                rest = behind;
+                number += 1;
+            }
+            Ok(None) => break,
+            Err(fault) => return Err(fault.at(number)),
         }
-        rest = behind;
-        number += 1;
     }
     if !rest.is_empty() {
         return Err(JournalFault::Line(number, Why::Missing));

@@ -100,6 +100,45 @@ fn bad_journals(rt: HostRuntime) {
     }
 }
 
+/// Lines that are read in one go, at the ends of what is, and lines that only begin like them.
+#[test]
+fn usual_lines(rt: HostRuntime) {
+    for text in [
+        "7 fix s10 99999999999999999 -> ok\n0 fix b15 -99999999999999999 -> ok\n0 fix g9 0 -> ok\ndone 3\n",
+        "0 fix s0 123456789012345678 -> ok\n0 fix s0 -4611686018427387904 -> ok\ndone 2\n",
+        "0 cons s0 b1 g2 -> #19999 @524287\n0 cons s0 b1 g2 -> !exhausted\ndone 2\n",
+        "0 get s0 b1 65535 -> nil\n0 get s0 b1 10 -> !range\n0 get s0 b1 0 -> -7\ndone 3\n",
+        "0 put s0 0 b1 -> !type\n0 put s0 65535 b1 -> !range\n0 show b0 -> 0\n0 show b0 -> nil\ndone 4\n",
+        "0 collect 0\n0 show b0 -> nil\n0 show b0 -> #0\ndone 3\n",
+    ] {
+        assert_eq!(rt; fault_of(rt.alloc(), text.as_bytes()), None, "{text}");
+    }
+    for (text, number) in [
+        ("0 fix s0 00 -> ok\n", 1),
+        ("0 fix s00 0 -> ok\n", 1),
+        ("0 fix s0 - -> ok\n", 1),
+        ("0 fix s0 5 -> !type\n", 1),
+        ("0 fix r0 5 -> ok\n", 1),
+        ("0 fix s0 5 -> ok \n", 1),
+        ("0 put s0 0 b16 -> ok\n", 1),
+        ("0 put s0 65536 b0 -> ok\n", 1),
+        ("0 put s0 0 b0 -> 5\n", 1),
+        ("0 get s0 b0 0 -> ok\n", 1),
+        ("0 get s0 b0 0 -> -0\n", 1),
+        ("0 show s0 -> !range\n", 1),
+        ("0 show s0 -> #01\n", 1),
+        ("0 cons s0 s1 s2 -> #0\n", 1),
+        ("0 cons s0 s1 s2 -> #0 @0 \n", 1),
+        ("0 collect 0\npass 0 1\n0 fix s0 5 -> ok\n", 3),
+    ] {
+        assert_eq!(rt;
+            fault_of(rt.alloc(), text.as_bytes()),
+            Some(JournalFault::Line(number, Why::Form)),
+            "{text}"
+        );
+    }
+}
+
 #[test]
 fn each_field_at_the_edge_of_its_range(rt: HostRuntime) {
     for (text, number) in [

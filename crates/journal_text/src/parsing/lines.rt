@@ -1,9 +1,10 @@
 //! Reading a line.
 
-ghost use Rattle.std.specs.Prelude.{◌≡◌};
+ghost use Rattle.std.specs.Prelude.{ℕ, ◌≡◌, ◌≢◌, ◌∷◌, ◌++◌, ◌<◌, ◌≤◌, length, slice_index, MatchOption};
 ghost use Rattle.std.specs.List.{slice_split};
 ghost use Rattle.journal_text.specs.AnswerReading.{Reads};
 ghost use Rattle.journal_text.specs.Cursors.{is_space};
+ghost use Rattle.journal_text.specs.Journals.{HasNoLf};
 ghost use Rattle.journal_text.specs.LineReading.{Gives};
 ghost use Rattle.journal_text.specs.PieceReading.{ReadsWhole, command_and_arrow, read_act, read_command_line, read_did, read_line, read_record, read_verb, whole};
 
@@ -18,6 +19,32 @@ use super::rows::{Shape, admits, may_answer};
 use super::words::{Name, name_of_word};
 use heap_terms::{Command, Event, MOST_THREADS};
 use std::alloc::Global;
+
+/// Where the first LF stands, or how many bytes there are.
+fn end_of_line(bytes: &[u8]) -> usize
+    ensures within { result ≤ length bytes.now }
+    ensures before { (k : ℕ) → k < result → slice_index bytes.now k ≢ 10 }
+    ensures found { result < length bytes.now → slice_index bytes.now result ≡ 10 }
+{
+    let mut len = 0;
+    while len < bytes.len() && bytes[len] != b'\n' {
+        len += 1;
+    }
+    len
+}
+
+/// The first line without its LF, and the bytes behind it.
+pub(crate) fn first_line(bytes: &[u8]) -> Option<(&[u8], &[u8])>
+    ensures { MatchOption result (HasNoLf bytes.now) (λ p. HasNoLf p.0.now × (bytes.now ≡ p.0.now ++ 10 ∷ p.1.now)) }
+{
+    let len = end_of_line(bytes);
+    if len == bytes.len() {
+        return None;
+    }
+    let (content, after) = bytes.split_at(len);
+    let (_, behind) = after.split_at(1);
+    Some((content, behind))
+}
 
 /// The piece, where it was read and nothing is left.
 fn whole(piece: Option<Piece>, fields: &Fields) -> Result<Piece, LineFault>

@@ -1,16 +1,18 @@
 //! What the lines so far have said.
 
-ghost use Rattle.std.specs.Prelude.{◌≡◌, ◌↔◌, IsTrue};
+ghost use Rattle.std.specs.Prelude.{◌≡◌, ◌↔◌, IfErr, IfOk, IsTrue, MatchOption};
 ghost use Rattle.std.specs.List.{slice_split};
-ghost use Rattle.journal_text.specs.Builder.{Adds, AddsLine, Closed, add, fresh, start};
+ghost use Rattle.journal_text.specs.Builder.{Adds, AddsLine, Closed, StopsAt, TakesLine, add, fresh, start};
 ghost use Rattle.journal_text.specs.Cursors.{is_space};
+ghost use Rattle.journal_text.specs.Journals.{HasNoLf};
 ghost use Rattle.journal_text.specs.PieceReading.{read_line};
 ghost use Rattle.journal_text.specs.declared.parsing.stages.Stage.TheVariants as stages;
 ghost use Rattle.journal_text.specs.declared.parsing.pieces.Piece.TheVariants as pieces;
 
 use super::faults::LineFault;
-use super::lines::line;
+use super::lines::{first_line, line};
 use super::pieces::Piece;
+use super::plain;
 use super::stages::Stage;
 use heap_terms::{Cull, Event, PassRecord, Passes, PinAt, Placing, Seq};
 use std::alloc::Global;
@@ -89,7 +91,21 @@ impl Reader {
     }
 
     /// An event that is no collection.
+    #[inline(always)]
     fn event(&mut self, alloc: Global, event: Event) -> Result<(), LineFault>
+        ensures { Adds (add self.old (pieces.Event event)) self.new result }
+    {
+        if !matches!(self.stage, Stage::Between) || self.passes.len() != 0 {
+            return self.event_behind(alloc, event);
+        }
+        self.events.push(event)?;
+        Ok(())
+    }
+
+    /// The same behind a collection.
+    #[cold]
+    #[inline(never)]
+    fn event_behind(&mut self, alloc: Global, event: Event) -> Result<(), LineFault>
         ensures { Adds (add self.old (pieces.Event event)) self.new result }
     {
         self.close(alloc)?;
@@ -245,11 +261,50 @@ impl Reader {
     }
 
     /// One more line, without its LF.
-    pub(crate) fn line(&mut self, alloc: Global, content: &[u8]) -> Result<(), LineFault>
+    fn line(&mut self, alloc: Global, content: &[u8]) -> Result<(), LineFault>
         ensures { AddsLine self.old (read_line (slice_split is_space content.now)) self.new result }
     {
         let piece = line(alloc, content)?;
         self.add(alloc, piece)
+    }
+
+    /// The line at the front, and the bytes behind it; none where no LF is left.
+    #[cold]
+    #[inline(never)]
+    fn take_any_line<'a>(
+        &mut self,
+        alloc: Global,
+        bytes: &'a [u8],
+    ) -> Result<Option<&'a [u8]>, LineFault>
+        ensures taken { IfOk result (λ left. MatchOption left (HasNoLf bytes.now × (self.new ≡ self.old)) (λ after. TakesLine self.old bytes.now after.now self.new)) }
+        ensures stopped { IfErr result (λ fault. StopsAt self.old bytes.now self.new fault) }
+    {
+        let Some((content, after)) = first_line(bytes) else {
+            return Ok(None);
+        };
+        match self.line(alloc, content) {
+            Ok(()) => Ok(Some(after)),
+            Err(fault) => Err(fault),
+        }
+    }
+
+    /// The same; a line in its usual spelling is read in one go.
+    #[inline(always)]
+    pub(crate) fn take_line<'a>(
+        &mut self,
+        alloc: Global,
+        bytes: &'a [u8],
+    ) -> Result<Option<&'a [u8]>, LineFault>
+        ensures taken { IfOk result (λ left. MatchOption left (HasNoLf bytes.now × (self.new ≡ self.old)) (λ after. TakesLine self.old bytes.now after.now self.new)) }
+        ensures stopped { IfErr result (λ fault. StopsAt self.old bytes.now self.new fault) }
+    {
+        let Some((event, after)) = plain::event(bytes) else {
+            return self.take_any_line(alloc, bytes);
+        };
+        match self.event(alloc, event) {
+            Ok(()) => Ok(Some(after)),
+            Err(fault) => Err(fault),
+        }
     }
 
     /// Whether the last line was read.

@@ -2,7 +2,7 @@ use Rattle.std.proofs.Common.{◌<◌, ◌∷◌, ◌++◌, length, drop, ap, sy
 use Rattle.journal_text.specs.Journals.{HasNoLf}
 use Rattle.journal_text.proofs.Ends.{no_lf_before, line_whole}
 use Rattle.journal_text.proofs.Values.{next_byte}
-use Rattle.journal_text.proofs.parsing.first_line.Goals as goal
+use Rattle.journal_text.proofs.parsing.lines.first_line.Goals as goal
 
 pub returns-then-len-bytes : goal.returns-then-len-bytes
 returns-then-len-bytes c =

@@ -1,5 +1,5 @@
 use Rattle.std.proofs.Common.{◌≡◌, ℕ, ◌<◌, ◌≤◌, length, get_or, ◌-◌}
-use Rattle.journal_text.proofs.parsing.end_of_line.Given as goal
+use Rattle.journal_text.proofs.parsing.lines.end_of_line.Given as goal
 
 abbrev pub invariant-loop-len : goal.invariant-loop-len
 invariant-loop-len l = record {
