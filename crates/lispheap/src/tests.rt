@@ -2,6 +2,8 @@
 
 ghost use Rattle.std.specs.Prelude.{◌≤◌};
 
+mod collections;
+
 use crate::still::lispheap_still;
 use heap_io::{MemorySink, MemorySource};
 use std::alloc::{AllocError, Global};
