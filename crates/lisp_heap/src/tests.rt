@@ -5,7 +5,7 @@ ghost use Rattle.heap_terms.specs.Valid.{IsValid};
 
 use crate::{Lent, Next, Parcel, World};
 use heap_terms::{
-    Answer, Cell, Command, Event, Kind, Memory, Owned, PageType, Program, Seq, Value,
+    Answer, Cell, Command, Event, Kind, Memory, Owned, PageType, Program, Refusal, Seq, Value,
 };
 use std::alloc::Global;
 use std::process::Abort;
@@ -174,5 +174,66 @@ fn a_script_of_one_cons(rt: HostRuntime) -> Result<(), Memory> {
     assert_eq!(rt; world.next(0), Next::Done);
     let expected = expected_history(alloc)?;
     assert!(rt; world.history() == expected.as_slice());
+    Ok(())
+}
+
+/// A thread that takes a pin off, pins a cell, takes the pin off, and asks for a collection; and one
+/// that inhibits collections.
+fn pinned_and_inhibited(alloc: Global) -> Result<Program, Memory>
+    ensures { IfOk result IsValid }
+{
+    let first = vec![in alloc;
+        Command::Unpin,
+        Command::Pin { c: Cell::Stack(0) },
+        Command::Unpin,
+        Command::Collect { g: 0 },
+    ]?;
+    let second = vec![in alloc; Command::Inhibit]?;
+    let threads = vec![in alloc; Seq::from_vec(first), Seq::from_vec(second)]?;
+    Ok(Program {
+        pages: 1,
+        auto: 0,
+        threads: Seq::from_vec(threads),
+        schedule: Seq::new(alloc),
+    })
+}
+
+/// So many commands of thread t, which allocate nothing.
+fn commands(rt: &impl Abort, world: &mut World, t: u32, count: u32) -> Result<(), Memory> {
+    for _ in 0..count {
+        assert!(rt; t < world.threads());
+        assert_eq!(rt; world.next(t), Next::Simple);
+        world.perform(t)?;
+    }
+    Ok(())
+}
+
+/// The fault of a command.
+fn refused(world: &World, i: usize) -> Option<Refusal> {
+    match world.history().get(i) {
+        Some(Event::Did {
+            answer: Answer::Refused(refusal),
+            ..
+        }) => Some(*refusal),
+        _ => None,
+    }
+}
+
+#[test]
+fn pins_and_a_collection_that_is_due(rt: HostRuntime) -> Result<(), Memory> {
+    let alloc = rt.alloc();
+    let (mut world, mut parcels) = World::new(alloc, pinned_and_inhibited(alloc)?)?;
+    while let Some(parcel) = parcels.pop() {
+        assert_eq!(rt; parcel.put_away(), 0);
+    }
+    parcels.destroy_empty();
+    commands(&rt, &mut world, 1, 1)?;
+    commands(&rt, &mut world, 0, 4)?;
+    assert!(rt; 1 < world.threads());
+    assert!(rt; world.inhibits(1));
+    assert_eq!(rt; world.next(0), Next::Collect(0));
+    assert_eq!(rt; refused(&world, 1), Some(Refusal::Nothing));
+    assert_eq!(rt; refused(&world, 2), None);
+    assert_eq!(rt; refused(&world, 3), None);
     Ok(())
 }
