@@ -15,6 +15,7 @@ use journal_text::{print, print_words};
 use replay_core::{run_history, run_schedule};
 use script_text::{ScriptFault, parse};
 use std::alloc::Global;
+use std::mem::forget;
 
 /// How many bytes of input there may be.
 const INPUT_LIMIT: u64 = MOST_BYTES as u64;
@@ -206,7 +207,10 @@ fn run_alone(alloc: Global, program: Program) -> Result<Vec<u8>, Memory>
     ensures { IfOk result (λ text. IsJournalOf false program text.items) }
 {
     let world = run_history(alloc, program)?;
-    print(alloc, world.history())
+    let text = print(alloc, world.history());
+    // The process ends once the text is written: a long history is not gone over again to be freed.
+    forget(world);
+    text
 }
 
 /// The journal of a program with its word steps.
