@@ -67,7 +67,7 @@ fn outcome_of(alloc: Global, words: &[&str], input: &[u8], streams: Streams) -> 
     let source_fails = Vec::from_slice(alloc, streams.source_fails)?;
     let out_fails = Vec::from_slice(alloc, streams.out_fails)?;
     let mut source = MemorySource::new(Vec::from_slice(alloc, input)?, streams.most, source_fails);
-    let mut out = MemorySink::new(alloc, streams.most, 100_000, out_fails)?;
+    let mut out = MemorySink::new(alloc, streams.most, 1_000_000, out_fails)?;
     let mut err = MemorySink::new(alloc, 1000, 1000, Vec::new(alloc))?;
     let status = lispheap_still(alloc, &spoken, &mut source, &mut out, &mut err);
     Ok(Ended { status, out, err })
