@@ -33,12 +33,12 @@ num_passed stats pass =
     slice_set stats.num pass.generation (if pass.raise then 0 else slice_index stats.num pass.generation + 1)
 
 -- the numbers of a heap, once a pass over it is accounted for that is about to be made
-pub record AccountedBefore (a : NamedHeap) (pass : Pass) (stats : GenStats) : Type 0 where
+pub record IsAccountedBefore (a : NamedHeap) (pass : Pass) (stats : GenStats) : Type 0 where
   pub cum_is : stats.cum ≡ (let next = pass.generation + 1 in
       if pass.raise then slice_set a.cum next (cum_of a next + allocated a next) else a.cum)
   pub num_is : stats.num ≡ a.num
 
 -- the numbers once it is accounted for that the pass was made
-pub record AccountedAfter (a : NamedHeap) (pass : Pass) (stats : GenStats) : Type 0 where
+pub record IsAccountedAfter (a : NamedHeap) (pass : Pass) (stats : GenStats) : Type 0 where
   pub cum_is : stats.cum ≡ cum_after a pass.generation pass.raise
   pub num_is : stats.num ≡ num_after a pass.generation pass.raise

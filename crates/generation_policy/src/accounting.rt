@@ -3,7 +3,7 @@
 ghost use Rattle.std.specs.Prelude.{◌≡◌, ◌+◌, ◌-◌, ◌^◌, ◌<◌, IsTrue, false, slice_index};
 ghost use Rattle.heap_terms.specs.Heap.{NamedHeap};
 ghost use Rattle.generation_policy.specs.Numbers.{IsPossible, StatsStand};
-ghost use Rattle.generation_policy.specs.Plan.{AccountedBefore, AccountedAfter, cum_raised, cum_collected, num_passed};
+ghost use Rattle.generation_policy.specs.Plan.{IsAccountedBefore, IsAccountedAfter, cum_raised, cum_collected, num_passed};
 
 use crate::stats::GenStats;
 use copy_space::Pass;
@@ -16,7 +16,7 @@ pub fn account_before(stats: &mut GenStats, pass: Pass)
     requires fits { IsTrue pass.raise
         → slice_index stats.old.cum (pass.generation + 1) + slice_index stats.old.allocated (pass.generation + 1) < 2 ^ 64 }
     ensures numbers { stats.new ≡ record stats.old { cum = cum_raised stats.old pass } }
-    ensures stand { (a : NamedHeap) → StatsStand a stats.old → AccountedBefore a pass stats.new }
+    ensures stand { (a : NamedHeap) → StatsStand a stats.old → IsAccountedBefore a pass stats.new }
 {
     if pass.raise {
         let next = pass.generation as usize + 1;
@@ -30,7 +30,7 @@ pub fn account_after(stats: &mut GenStats, pass: Pass)
     requires possible { IsPossible pass }
     requires fits { pass.raise ≡ false → slice_index stats.old.num pass.generation < 2 ^ 32 - 1 }
     ensures numbers { stats.new ≡ record stats.old { cum = cum_collected stats.old pass; num = num_passed stats.old pass } }
-    ensures stand { (a : NamedHeap) → AccountedBefore a pass stats.old → AccountedAfter a pass stats.new }
+    ensures stand { (a : NamedHeap) → IsAccountedBefore a pass stats.old → IsAccountedAfter a pass stats.new }
 {
     let place = pass.generation as usize;
     stats.cum[place] = 0;
