@@ -1,5 +1,6 @@
 -- How many objects there are, and the numbers in events.
 pub mod ObjectCount
 pub mod PlainPages
+pub mod PolicyNumbers
 pub mod PlainEvents
 pub mod InhibitsFew
