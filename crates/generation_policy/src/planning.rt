@@ -39,6 +39,7 @@ pub fn plan_next(stats: &GenStats, last: u8, previous: Option<Pass>) -> Option<P
 
 /// The pass over a generation, in a collection up to `last`.
 #[inline]
+#[tactic(auto, unfolding(heap_terms::specs::Policy::is_raised))]
 fn pass_over(stats: &GenStats, last: u8, generation: u8) -> Pass
     requires { generation ≤ OLDEST_COLLECTED }
     ensures planned { (a : NamedHeap) → StatsStand a stats.now → result ≡ pass_over a last generation }
@@ -51,6 +52,7 @@ fn pass_over(stats: &GenStats, last: u8, generation: u8) -> Pass
 
 /// Whether a collection up to `last` goes on after a pass.
 #[inline]
+#[tactic(auto, unfolding(heap_terms::specs::Policy::is_continued))]
 fn is_continued(stats: &GenStats, last: u8, pass: Pass) -> bool
     requires measurable { pass.generation < OLDEST_COLLECTED → IsMeasurable stats.now (pass.generation + 1) }
     ensures continued { (a : NamedHeap) → StatsStand a stats.now
