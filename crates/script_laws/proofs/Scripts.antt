@@ -240,7 +240,7 @@ unfolding spaced
 one_field word f = ap (λ (text : List ℕ). word ++ text) (append-nil (field f))
 
 -- a line of a word and a number
-number_leads : (s next : SoFar) (word : List ℕ) (n : ℕ) (rest : List ℕ) (p : Program) → IsWord word → n < 10 ^ 20 → judged s (word ∷ decimal n ∷ []) ≡ Ok next → Leads next rest p →
+number_leads : (s next : SoFar) (word : List ℕ) (n : ℕ) (rest : List ℕ) (p : Program) → IsWord word → n < 2 ^ 64 → judged s (word ∷ decimal n ∷ []) ≡ Ok next → Leads next rest p →
     Leads s (line (word ++ field (decimal n)) ++ rest) p
 number_leads s next word n rest p h few read leads =
     subst (λ (text : List ℕ). Leads s (line text ++ rest) p) (one_field word (decimal n))
