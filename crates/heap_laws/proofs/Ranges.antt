@@ -2,5 +2,6 @@
 pub mod ObjectCount
 pub mod PlainPages
 pub mod PolicyNumbers
+pub mod GenerationWords
 pub mod PlainEvents
 pub mod InhibitsFew
