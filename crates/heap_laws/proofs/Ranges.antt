@@ -3,5 +3,6 @@ pub mod ObjectCount
 pub mod PlainPages
 pub mod PolicyNumbers
 pub mod GenerationWords
+pub mod KeptWords
 pub mod PlainEvents
 pub mod InhibitsFew

@@ -84,7 +84,7 @@ kept_words a r = sum_by (λ name. kept_in a r name (object_at a.objects name)) (
 surviving_words : (a : NamedHeap) (r : PassRecord) (o : Object) → size_of (kind_of (surviving (remains a r) o.contents)) (payload_of (surviving (remains a r) o.contents)) ≡ words_of_object o
 surviving_words a r o = rw (surviving-payload (remains a r) o.contents, surviving-kind (remains a r) o.contents) refl
 
-sum_both : (f g : ℕ → ℕ) (a n : ℕ) → sum_by (λ t. f t + g t) (range_with_len a n) ≡ sum_by f (range_with_len a n) + sum_by g (range_with_len a n)
+pub sum_both : (f g : ℕ → ℕ) (a n : ℕ) → sum_by (λ t. f t + g t) (range_with_len a n) ≡ sum_by f (range_with_len a n) + sum_by g (range_with_len a n)
 sum_both f g a zero = refl
 sum_both f g a (suc n) =
     let rest = sum_both f g (a + 1) n in
@@ -95,7 +95,7 @@ sum_both f g a (suc n) =
       sum_by-cons (λ t. f t + g t) a (range_with_len (a + 1) n),
     )
 
-sum_nothing : (a n : ℕ) → sum_by (λ t. 0) (range_with_len a n) ≡ 0
+pub sum_nothing : (a n : ℕ) → sum_by (λ t. 0) (range_with_len a n) ≡ 0
 sum_nothing a zero = refl
 sum_nothing a (suc n) = let rest = sum_nothing (a + 1) n in omega (arith, sum_by-cons (λ t. 0) a (range_with_len (a + 1) n))
 
