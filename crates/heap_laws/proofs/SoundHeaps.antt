@@ -8,3 +8,7 @@ pub use Rattle.heap_laws.proofs.WellFormed.Threads.{start_thread, start_free, op
 pub use Rattle.heap_laws.proofs.WellFormed.LivingValues.{cell_living}
 pub use Rattle.heap_laws.proofs.Ranges.ObjectCount.{start_thread_is, commits_few}
 pub use Rattle.heap_laws.proofs.Outcomes.Parts.{with_field-kind}
+-- the policy's numbers, and the words of a generation
+pub use Rattle.heap_laws.proofs.Ranges.PolicyNumbers.{allocated_most, words_few, replay-numbers, pass-numbers}
+pub use Rattle.heap_laws.proofs.Ranges.GenerationWords.{kept_in, kept_words, committed-allocated, outcome-allocated, pass-allocated}
+pub use Rattle.heap_laws.proofs.Ranges.KeptWords.{kept-listed}

@@ -1,6 +1,6 @@
 -- What a user expects of commands, over every heap and every history.
-use Rattle.std.specs.Prelude.{◌≡◌, ◌≢◌, ℕ, List, length, map, Option, Some, None, All, false, true, Bool, slice_get, option_map, option_and_then}
-use Rattle.std.specs.List.{filter, filter_map, range_with_len}
+use Rattle.std.specs.Prelude.{◌≡◌, ◌≢◌, ℕ, List, length, Option, Some, None, slice_get, option_map, option_and_then}
+use Rattle.std.specs.List.{filter_map, range_with_len}
 use Rattle.heap_terms.specs.declared.answers.Answer.{Answer}
 use Rattle.heap_terms.specs.declared.answers.Answer.TheVariants as answers
 use Rattle.heap_terms.specs.declared.answers.Refusal.{Refusal}

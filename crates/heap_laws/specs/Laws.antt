@@ -1,16 +1,18 @@
 -- Laws of the definitions, each for every program: what a reader may rely on beside the definitions themselves.
-use Rattle.std.specs.Prelude.{◌≡◌, ◌↔◌, ℕ, ◌+◌, ◌<◌, ◌≤◌, List, [], ◌∷◌, ◌++◌, length, map, All, IfSome, None, false}
+use Rattle.std.specs.Prelude.{◌≡◌, ◌↔◌, ℕ, ◌+◌, ◌<◌, ◌≤◌, List, [], ◌∷◌, ◌++◌, length, map, All, None, false}
 use Rattle.heap_terms.specs.declared.events.Event.{Event}
-use Rattle.heap_terms.specs.declared.kinds.Kind.TheVariants as kinds
+use Rattle.heap_terms.specs.declared.events.PassRecord.{PassRecord}
 use Rattle.heap_terms.specs.declared.programs.Program.{Program}
-use Rattle.heap_terms.specs.declared.limits.TheConstants.{MOST_COMMANDS}
+use Rattle.heap_terms.specs.declared.limits.TheConstants.{MOST_COMMANDS, OLDEST_COLLECTED}
+use Rattle.heap_terms.specs.Collections.{IsPassOf, after_pass_of}
 use Rattle.heap_terms.specs.Complete.{IsComplete}
-use Rattle.heap_terms.specs.Heap.{NamedHeap, object_at, thread_at}
+use Rattle.heap_terms.specs.Heap.{NamedHeap, thread_at}
 use Rattle.heap_terms.specs.Histories.{IsNext, after, due, Lawful, LawfulFrom, replay, replay_from, thread_of, script_of}
+use Rattle.pass_laws.specs.NoRegions.{HasNoRegions}
 use Rattle.heap_laws.specs.Remaining.{all_left, events_at_most, most_events}
-use Rattle.heap_terms.specs.Objects.{kind_of}
 use Rattle.heap_laws.specs.Order.{commands_of, events_of, EndsOnce, orders_of}
 use Rattle.heap_laws.specs.Limited.{IsLimited}
+use Rattle.heap_laws.specs.Numbers.{HasNumbers, most_passes}
 use Rattle.heap_laws.specs.Plain.{IsPlain}
 use Rattle.heap_laws.specs.HeapRuns.{IsRunOf}
 use Rattle.heap_terms.specs.Valid.{IsValid}
@@ -36,6 +38,14 @@ HeapsAreWellFormed = (p : Program) (h : List Event) → IsLimited p → Lawful p
 -- of at most 20,000 objects
 abbrev pub HeapsAreSmall : Type 0
 HeapsAreSmall = (p : Program) (h : List Event) → IsValid p → Lawful p h → length (replay p h).objects ≤ MOST_COMMANDS
+
+-- The policy's numbers stay small: in every such heap, and after each pass of a collection they are those of one pass
+-- more. So sums and products of them fit 64 bits.
+abbrev pub NumbersStaySmall : Type 0
+NumbersStaySmall =
+    ((p : Program) (h : List Event) → IsValid p → Lawful p h → HasNumbers (replay p h) most_passes)
+    × ((p : Program) (a : NamedHeap) (last g passes : ℕ) (r : PassRecord) → g ≤ OLDEST_COLLECTED → IsWellFormed p a → HasNoRegions a →
+    length a.objects ≤ MOST_COMMANDS → IsPassOf a last g r → HasNumbers a passes → HasNumbers (after_pass_of a last g r) (passes + 1))
 
 -- with each event, collections too, there is less left, so that every history ends: it has at most so many events as follow
 -- from its program, and never more than 41,168

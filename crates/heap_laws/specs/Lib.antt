@@ -6,3 +6,4 @@ pub mod Plain
 pub mod Laws
 pub mod WordLaws
 pub mod CommandLaws
+pub mod Numbers

@@ -48,7 +48,7 @@ IsPlainAnswer Broken = ⊥
 IsPlainAnswer (Count n) = ⊥
 IsPlainAnswer (Ran ids) = ⊥
 IsPlainAnswer (Page view) = IsPlainView view
-IsPlainAnswer (Stat allocated cum num) = ⊥
+IsPlainAnswer (Stat allocated cum num) = (allocated < 2 ^ 64) × (cum < 2 ^ 64) × (num < 2 ^ 32)
 IsPlainAnswer (Placed name index) = (name < MOST_COMMANDS) × (index < MOST_WORDS)
 IsPlainAnswer (Refused why) = Unit {0}
 

@@ -5,7 +5,7 @@ use Rattle.std.specs.Prelude.{◌≡◌, ℕ, ◌+◌, List, [], ◌∷◌, map,
 use Rattle.heap_terms.specs.declared.events.PassRecord.{PassRecord}
 use Rattle.heap_terms.specs.Heap.{NamedHeap, Thread, thread_at, with_thread}
 use Rattle.heap_terms.specs.Passes.{IsPass, after_pass}
-use Rattle.heap_terms.specs.Policy.{raises, goes_on, target_of, cum_after, num_after}
+use Rattle.heap_terms.specs.Policy.{is_raised, is_continued, target_of, cum_after, num_after}
 
 -- a thread without open pages and runs
 abbrev pub closed_thread : Thread → Thread
@@ -18,16 +18,16 @@ closed a = record a { threads = map closed_thread a.threads }
 -- the heap after the pass over generation g of a collection up to `last`, with the policy's numbers
 abbrev pub after_pass_of : NamedHeap → ℕ → ℕ → PassRecord → NamedHeap
 after_pass_of a last g r =
-    let raised = raises a last g in
+    let raised = is_raised a last g in
     record (after_pass a r) { cum = cum_after a g raised; num = num_after a g raised }
 
 -- one pass of a collection up to `last`, over generation g
 abbrev pub IsPassOf : NamedHeap → ℕ → ℕ → PassRecord → Type 0
-IsPassOf a last g r = IsPass a g (target_of g (raises a last g)) r
+IsPassOf a last g r = IsPass a g (target_of g (is_raised a last g)) r
 
 -- whether the collection goes on after that pass
 abbrev pub goes_on_after : NamedHeap → ℕ → ℕ → PassRecord → Bool
-goes_on_after a last g r = goes_on (after_pass_of a last g r) last g (raises a last g)
+goes_on_after a last g r = is_continued (after_pass_of a last g r) last g (is_raised a last g)
 
 -- the passes of a collection up to `last`, from generation g on: one after the other, just as long as it goes on
 abbrev pub ArePasses : NamedHeap → ℕ → ℕ → List PassRecord → Type 0

@@ -8,7 +8,7 @@ use Rattle.heap_terms.specs.declared.commands.Command.TheVariants as commands
 use Rattle.heap_terms.specs.declared.faults.Why.{Why}
 use Rattle.heap_terms.specs.declared.faults.Why.TheVariants.{Word, Fields, Form}
 use Rattle.heap_terms.specs.declared.kinds.Weakness.{Weakness}
-use Rattle.heap_terms.specs.declared.limits.TheConstants.{MOST_ELEMENTS, MOST_PAIRS, OLDEST_GENERATION}
+use Rattle.heap_terms.specs.declared.limits.TheConstants.{MOST_ELEMENTS, MOST_PAIRS, OLDEST_COLLECTED, OLDEST_GENERATION}
 use Rattle.heap_terms.specs.Fields.{◌>>=◌, number_of, signed_of, raw_word_of, cell_of, raw_cell_of, weakness_named, ranged, between, at_least, at_most, is_fixnum, is_i64, is_auto, turns_of}
 
 -- what a field may be; a number has a test of its range
@@ -75,8 +75,7 @@ Wide = Number (at_most 4294967295)
 abbrev pub row : List ℕ → (forms : List FieldForm) → Saying forms → Row
 row word forms says = record { word = word; forms = forms; says = says }
 
--- The table. A number of pages above 1,024 has its range and passes a limit. Until generations are built `gc`
--- has the number 0.
+-- The table. A number of pages above 1,024 has its range and passes a limit.
 unfoldable pub rows : List Row
 rows =
     row (codes "lispheap") (Number (between 1 1) ∷ []) (λ version. Version)
@@ -113,7 +112,7 @@ rows =
     ∷ row (codes "finalize") (LispCell ∷ Wide ∷ []) (λ c id. Does (commands.Finalize c id))
     ∷ row (codes "cancel") (LispCell ∷ []) (λ c. Does (commands.Cancel c))
     ∷ row (codes "runfin") [] (Does commands.RunFinalizers)
-    ∷ row (codes "gc") (Number (at_most 0) ∷ []) (λ g. Does (commands.Collect g))
+    ∷ row (codes "gc") (Number (at_most OLDEST_COLLECTED) ∷ []) (λ g. Does (commands.Collect g))
     ∷ row (codes "nogc") [] (Does commands.Inhibit)
     ∷ row (codes "gcok") [] (Does commands.Allow)
     ∷ row (codes "page") (Wide ∷ []) (λ p. Does (commands.ShowPage p))

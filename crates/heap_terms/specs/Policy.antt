@@ -1,14 +1,10 @@
 -- The policy: when a pass raises what it keeps by one generation, and when a collection goes on. After SBCL's number of
 -- collections before promotion, bytes consed between collections and minimum average age; the loop and all numbers
 -- are this project's own. Nothing is left free.
-use Rattle.std.specs.Prelude.{ℕ, List, ◌+◌, ◌*◌, ◌&&◌, ◌||◌, Bool, false, if◌then◌else◌, nat_le, nat_lt, slice_index_or, slice_set}
+use Rattle.std.specs.Prelude.{ℕ, List, ◌+◌, ◌*◌, ◌&&◌, ◌||◌, Bool, if◌then◌else◌, nat_le, nat_lt, slice_index_or, slice_set}
 use Rattle.heap_terms.specs.declared.limits.TheConstants.{OLDEST_COLLECTED}
 use Rattle.heap_terms.specs.Generations.{allocated}
 use Rattle.heap_terms.specs.Heap.{NamedHeap}
-
--- Promotion is not built yet: a collection is one pass over generation 0, which raises nothing. This one line turns it on.
-unfoldable pub promotes : Bool
-promotes = false
 
 -- a generation is raised once so many passes over it did not raise it, or at once where an older one is asked for
 abbrev pub before : ℕ
@@ -27,7 +23,7 @@ abbrev pub num_of : NamedHeap → ℕ → ℕ
 num_of a g = slice_index_or a.num g 0
 
 -- whether generation g is raised in a collection up to generation `last`
-abbrev pub is_raised : NamedHeap → ℕ → ℕ → Bool
+unfoldable pub is_raised : NamedHeap → ℕ → ℕ → Bool
 is_raised a last g = nat_lt g OLDEST_COLLECTED && (nat_lt g last || nat_le before (num_of a g))
 
 -- whether the average age of a generation is above three quarters
@@ -35,16 +31,9 @@ abbrev pub has_age : NamedHeap → ℕ → Bool
 has_age a g = nat_lt (3 * allocated a g) (4 * cum_of a g)
 
 -- whether the collection goes on with generation g + 1, in the heap after the pass over g
-abbrev pub is_continued : NamedHeap → ℕ → ℕ → Bool → Bool
+unfoldable pub is_continued : NamedHeap → ℕ → ℕ → Bool → Bool
 is_continued a last g raised =
     nat_lt g OLDEST_COLLECTED && (nat_le (g + 1) last || (raised && (nat_lt between (allocated a (g + 1)) && has_age a (g + 1))))
-
--- the two tests that a collection makes
-unfoldable pub raises : NamedHeap → ℕ → ℕ → Bool
-raises a last g = promotes && is_raised a last g
-
-unfoldable pub goes_on : NamedHeap → ℕ → ℕ → Bool → Bool
-goes_on a last g raised = promotes && is_continued a last g raised
 
 -- the target of a pass over generation g
 abbrev pub target_of : ℕ → Bool → ℕ

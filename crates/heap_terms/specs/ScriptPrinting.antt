@@ -1,5 +1,5 @@
--- The text of a program: each field with one space before it, numbers without leading zeros, and the turns of the
--- schedule in runs. The form is this project's own. Until `auto` is built there is no `auto` line.
+-- The text of a program: each field with one space before it, numbers without leading zeros, always an `auto` line, and
+-- the turns of the schedule in runs. The form is this project's own.
 use Rattle.std.specs.Prelude.{ℕ, ◌+◌, ◌/◌, ◌%◌, List, [], ◌∷◌, ◌++◌, ◌==◌, flat_map, replicate, if◌then◌else◌, codes, decimal}
 use Rattle.heap_terms.specs.declared.commands.Command.{Command}
 use Rattle.heap_terms.specs.declared.limits.TheConstants.{MOST_TURNS_IN_A_ROW}
@@ -47,5 +47,5 @@ thread_text cs = line (codes "thread") ++ flat_map (λ c. line (command_text c))
 -- the whole script
 abbrev pub program_text : Program → List ℕ
 program_text p =
-    line (codes "lispheap 1") ++ line (codes "heap" ++ number_field p.pages)
+    line (codes "lispheap 1") ++ line (codes "heap" ++ number_field p.pages) ++ line (codes "auto" ++ number_field p.auto)
     ++ flat_map thread_text p.threads ++ schedule_text p.schedule ++ line (codes "end")

@@ -1,5 +1,5 @@
 -- Which programs a script can be read as. All ranges and limits are this project's own.
-use Rattle.std.specs.Prelude.{◌≡◌, ℕ, ℤ, pos, negsuc, ◌<◌, ◌≤◌, ◌^◌, List, [], ◌∷◌, length, All, sum_by, count_by, Bool, true, false, codes}
+use Rattle.std.specs.Prelude.{◌≡◌, ℕ, ℤ, pos, negsuc, ◌<◌, ◌≤◌, ◌^◌, ◌⊎◌, List, [], ◌∷◌, length, All, sum_by, count_by, Bool, true, false, codes}
 use Rattle.std.specs.Str.{bytes_eq}
 use Rattle.std.specs.List.{list_any}
 use Rattle.heap_terms.specs.declared.cells.Cell.{Cell}
@@ -8,7 +8,7 @@ use Rattle.heap_terms.specs.declared.cells.Raw.{Raw}
 use Rattle.heap_terms.specs.declared.commands.Command.{Command}
 use Rattle.heap_terms.specs.declared.commands.Command.TheVariants.{Fix, MakeNil, Move, NewCons, NewVector, NewInstance, NewClosure, NewWords, NewWeak, NewTable, Get, Put, RawGet, RawPut, Same, Show, Addr, SetRaw, AddRaw, Pin, Unpin, WeakVal, TablePut, TableGet, TableRem, TableCount, Finalize, Cancel, RunFinalizers, Collect, Inhibit, Allow, ShowPage, Stat}
 use Rattle.heap_terms.specs.declared.programs.Program.{Program}
-use Rattle.heap_terms.specs.declared.limits.TheConstants.{CELLS, RAW_CELLS, MOST_ELEMENTS, MOST_PAIRS, MOST_PAGES, MOST_THREADS, MOST_COMMANDS, MOST_GCS, MOST_TURNS, OLDEST_COLLECTED, OLDEST_GENERATION}
+use Rattle.heap_terms.specs.declared.limits.TheConstants.{CELLS, RAW_CELLS, MOST_ELEMENTS, MOST_PAIRS, LEAST_AUTO, MOST_AUTO, MOST_PAGES, MOST_THREADS, MOST_COMMANDS, MOST_GCS, MOST_TURNS, OLDEST_COLLECTED, OLDEST_GENERATION}
 
 -- the cells of each kind are 16
 abbrev pub IsCell : Cell → Type 0
@@ -69,10 +69,10 @@ name_of (Stat g) = codes "stat"
 
 -- the words that this version reads; a line that begins with another word is refused
 abbrev pub built_words : List (List ℕ)
-built_words = codes "lispheap" ∷ codes "heap" ∷ codes "thread" ∷ codes "fix" ∷ codes "nil" ∷ codes "move" ∷ codes "cons"
+built_words = codes "lispheap" ∷ codes "heap" ∷ codes "auto" ∷ codes "thread" ∷ codes "fix" ∷ codes "nil" ∷ codes "move" ∷ codes "cons"
     ∷ codes "vector" ∷ codes "instance" ∷ codes "closure" ∷ codes "words"
     ∷ codes "get" ∷ codes "put" ∷ codes "rawget" ∷ codes "rawput" ∷ codes "eq" ∷ codes "show" ∷ codes "addr"
-    ∷ codes "raw" ∷ codes "add" ∷ codes "pin" ∷ codes "unpin" ∷ codes "gc" ∷ codes "nogc" ∷ codes "gcok" ∷ codes "page" ∷ codes "schedule" ∷ codes "end" ∷ []
+    ∷ codes "raw" ∷ codes "add" ∷ codes "pin" ∷ codes "unpin" ∷ codes "gc" ∷ codes "nogc" ∷ codes "gcok" ∷ codes "page" ∷ codes "stat" ∷ codes "schedule" ∷ codes "end" ∷ []
 
 -- whether a word is among them
 abbrev pub is_built : List ℕ → Bool
@@ -120,43 +120,6 @@ pub record IsCommand (c : Command) : Type 0 where
   pub built : is_built (name_of c) ≡ true
   pub in_range : IsInRange c
 
--- until generations are built a `gc` names generation 0 alone
-abbrev pub NamesYoungest : Command → Type 0
-NamesYoungest (Collect g) = g ≡ 0
-NamesYoungest (Fix d n) = Unit {0}
-NamesYoungest (MakeNil d) = Unit {0}
-NamesYoungest (Move d c) = Unit {0}
-NamesYoungest (NewCons d a b) = Unit {0}
-NamesYoungest (NewVector d n) = Unit {0}
-NamesYoungest (NewInstance d n) = Unit {0}
-NamesYoungest (NewClosure d n) = Unit {0}
-NamesYoungest (NewWords d n w) = Unit {0}
-NamesYoungest (NewWeak d c) = Unit {0}
-NamesYoungest (NewTable d w b) = Unit {0}
-NamesYoungest (Get d c i) = Unit {0}
-NamesYoungest (Put c i a) = Unit {0}
-NamesYoungest (RawGet r c i) = Unit {0}
-NamesYoungest (RawPut c i r) = Unit {0}
-NamesYoungest (Same a b) = Unit {0}
-NamesYoungest (Show c) = Unit {0}
-NamesYoungest (Addr r c) = Unit {0}
-NamesYoungest (SetRaw r w) = Unit {0}
-NamesYoungest (AddRaw r k) = Unit {0}
-NamesYoungest (Pin c) = Unit {0}
-NamesYoungest Unpin = Unit {0}
-NamesYoungest (WeakVal d c) = Unit {0}
-NamesYoungest (TablePut c k v) = Unit {0}
-NamesYoungest (TableGet d c k) = Unit {0}
-NamesYoungest (TableRem c k) = Unit {0}
-NamesYoungest (TableCount c) = Unit {0}
-NamesYoungest (Finalize c id) = Unit {0}
-NamesYoungest (Cancel c) = Unit {0}
-NamesYoungest RunFinalizers = Unit {0}
-NamesYoungest Inhibit = Unit {0}
-NamesYoungest Allow = Unit {0}
-NamesYoungest (ShowPage p) = Unit {0}
-NamesYoungest (Stat g) = Unit {0}
-
 -- whether a command is `gc`
 abbrev pub is_gc : Command → Bool
 is_gc (Collect g) = true
@@ -194,17 +157,19 @@ is_gc Allow = false
 is_gc (ShowPage p) = false
 is_gc (Stat g) = false
 
+-- so many words between two collections that `auto` asks for, or 0 for none
+abbrev pub IsAuto : ℕ → Type 0
+IsAuto words = (words ≡ 0) ⊎ ((LEAST_AUTO ≤ words) × (words ≤ MOST_AUTO))
+
 -- A program that a script can be read as: one to eight threads, 1 to 1,024 pages, at most 20,000 commands and
--- 64 `gc` among them, at most 1,000,000 turns. Until `auto` and generations are built the number of `auto` and
--- that of each `gc` is 0.
+-- 64 `gc` among them, at most 1,000,000 turns, and a number of `auto`.
 pub record IsValid (p : Program) : Type 0 where
   pub pages_least : 1 ≤ p.pages
   pub pages_most : p.pages ≤ MOST_PAGES
-  pub auto : p.auto ≡ 0
+  pub auto : IsAuto p.auto
   pub threads_least : 1 ≤ length p.threads
   pub threads_most : length p.threads ≤ MOST_THREADS
   pub commands : All (All IsCommand) p.threads
-  pub gcs : All (All NamesYoungest) p.threads
   pub commands_most : sum_by length p.threads ≤ MOST_COMMANDS
   pub gcs_most : sum_by (count_by is_gc) p.threads ≤ MOST_GCS
   pub schedule : All (λ t. t < length p.threads) p.schedule

@@ -2,7 +2,7 @@
 use Rattle.std.proofs.Common.{◌≡◌, ℕ, zero, suc, ◌+◌, ◌<◌, ◌≤◌, List, [], ◌∷◌, ◌++◌, length, get_or, map, Option, Some, None, Bool, true, false, ◌⊎◌, inl, inr, refl, sym, ◌∙◌, subst, ap, arith}
 use Rattle.std.proofs.lemmas.Bool.{cases_lt, cases_eq, cases_Bool, or_cases, or_left, and_parts, and_from, ltb-true, lt-ltb, leb-true, false≢true, eq-eqb}
 use Rattle.std.proofs.lemmas.List.{get_or-map, length-map, length-set, get_or_past, get_or-set_same, get_or-set_other, set_past}
-use Rattle.std.specs.Prelude.{◌&&◌, ◌==◌, nat_lt, nat_le}
+use Rattle.std.specs.Prelude.{◌==◌, nat_lt, nat_le}
 use Rattle.heap_terms.specs.declared.events.PassRecord.{PassRecord}
 use Rattle.heap_terms.specs.declared.kinds.PageType.{PageType}
 use Rattle.heap_terms.specs.declared.kinds.PageType.TheVariants as types
@@ -12,40 +12,38 @@ use Rattle.heap_terms.specs.Collections.{closed_thread, closed, after_pass_of, I
 use Rattle.heap_terms.specs.Heap.{NamedHeap, Thread, thread_at, with_thread, open_page, ended_thread, fresh_thread}
 use Rattle.heap_terms.specs.Objects.{Object}
 use Rattle.heap_terms.specs.Passes.{after_pass}
-use Rattle.heap_terms.specs.Policy.{promotes, is_raised, is_continued, raises, goes_on, target_of, cum_after}
+use Rattle.heap_terms.specs.Policy.{is_raised, is_continued, target_of, cum_after}
 use Rattle.heap_terms.specs.WellFormed.{IsWellFormed, IsThread, IsSound}
 use Rattle.pass_laws.specs.NoRegions.{HasNoRegions, IsEmptyBelow}
 use Rattle.pass_laws.proofs.AfterPass.{remaining}
 use Rattle.pass_laws.proofs.AfterRoots.{pass_well_formed}
 use Rattle.pass_laws.proofs.PassExists.{pass_exists}
 
--- what a raise and a going on say of the generation, whether promotion is built or not
-pub raises-low : (a : NamedHeap) (last g : ℕ) → raises a last g ≡ true → g < 5
-unfolding raises
-raises-low a last g e = ltb-true g 5 (and_parts (nat_lt g 5) _ (and_parts promotes (is_raised a last g) e).1).0
+-- what a raise and a going on say of the generation
+pub is_raised-low : (a : NamedHeap) (last g : ℕ) → is_raised a last g ≡ true → g < 5
+unfolding is_raised
+is_raised-low a last g e = ltb-true g 5 (and_parts (nat_lt g 5) _ e).0
 
-pub goes_on-low : (a : NamedHeap) (last g : ℕ) (raised : Bool) → goes_on a last g raised ≡ true → g < 5
-unfolding goes_on
-goes_on-low a last g raised e = ltb-true g 5 (and_parts (nat_lt g 5) _ (and_parts promotes (is_continued a last g raised) e).1).0
+pub is_continued-low : (a : NamedHeap) (last g : ℕ) (raised : Bool) → is_continued a last g raised ≡ true → g < 5
+unfolding is_continued
+is_continued-low a last g raised e = ltb-true g 5 (and_parts (nat_lt g 5) _ e).0
 
 -- a collection goes on only after a raise
-pub goes_on-raised : (a b : NamedHeap) (last g : ℕ) → goes_on b last g (raises a last g) ≡ true → raises a last g ≡ true
-unfolding raises goes_on
-goes_on-raised a b last g e =
-    let parts = and_parts promotes (is_continued b last g (promotes && is_raised a last g)) e in
-    let low = and_parts (nat_lt g 5) _ parts.1 in
-    elim (or_cases (nat_le (g + 1) last) _ low.1) [
-      | inl asked ↦ (let l = leb-true (g + 1) last asked in
-          and_from promotes _ parts.0 (and_from (nat_lt g 5) _ low.0 (or_left (nat_lt g last) _ (lt-ltb g last (omega arith)))))
-      | inr grown ↦ (and_parts (promotes && is_raised a last g) _ grown).0
+pub is_continued-raised : (a b : NamedHeap) (last g : ℕ) → is_continued b last g (is_raised a last g) ≡ true → is_raised a last g ≡ true
+unfolding is_raised is_continued
+is_continued-raised a b last g e =
+    let parts = and_parts (nat_lt g 5) _ e in
+    elim (or_cases (nat_le (g + 1) last) _ parts.1) [
+      | inl asked ↦ (let l = leb-true (g + 1) last asked in and_from (nat_lt g 5) _ parts.0 (or_left (nat_lt g last) _ (lt-ltb g last (omega arith))))
+      | inr grown ↦ (and_parts (is_raised a last g) _ grown).0
     ]
 
 -- the target of a pass is a generation that is collected
-pub target-most : (a : NamedHeap) (last g : ℕ) → g ≤ 5 → target_of g (raises a last g) ≤ 5
-target-most a last g low = go (raises a last g) refl
+pub target-most : (a : NamedHeap) (last g : ℕ) → g ≤ 5 → target_of g (is_raised a last g) ≤ 5
+target-most a last g low = go (is_raised a last g) refl
   where
-    go : (b : Bool) → raises a last g ≡ b → target_of g b ≤ 5
-    go true e = (let l = raises-low a last g e in omega arith)
+    go : (b : Bool) → is_raised a last g ≡ b → target_of g b ≤ 5
+    go true e = (let l = is_raised-low a last g e in omega arith)
     go false e = low
 
 -- a pass leaves the threads as they were
@@ -59,7 +57,7 @@ module _ (p : Program) where
   pub pass_of-well_formed : (a : NamedHeap) (last g : ℕ) (r : PassRecord) → g ≤ 5 → IsWellFormed p a → HasNoRegions a → IsPassOf a last g r →
       IsWellFormed p (after_pass_of a last g r) × HasNoRegions (after_pass_of a last g r)
   pass_of-well_formed a last g r low w none pass =
-      let h = target_of g (raises a last g) in
+      let h = target_of g (is_raised a last g) in
       let target : r.target ≤ 5 = subst (λ (x : ℕ). x ≤ 5) (sym pass.target) (target-most a last g low) in
       let b = pass_well_formed p a g h r w pass none target in (
         record {
@@ -74,7 +72,7 @@ module _ (p : Program) where
           pages_length = b.pages_length;
           threads_length = b.threads_length;
           shared_length = b.shared_length;
-          cum_length = cum_long (raises a last g) w.cum_length;
+          cum_length = cum_long (is_raised a last g) w.cum_length;
           num_length = length-set a.num g _ ∙ w.num_length;
           threads = b.threads;
           shared = b.shared;
@@ -101,7 +99,7 @@ module _ (p : Program) where
   passes-well_formed a last g (r ∷ []) low w none are = pass_of-well_formed a last g r low w none are.0
   passes-well_formed a last g (r ∷ s ∷ rest) low w none are =
       let first = pass_of-well_formed a last g r low w none are.0 in
-      let more = goes_on-low (after_pass_of a last g r) last g (raises a last g) are.1 in
+      let more = is_continued-low (after_pass_of a last g r) last g (is_raised a last g) are.1 in
       passes-well_formed (after_pass_of a last g r) last (g + 1) (s ∷ rest) (omega arith) first.0 first.1 are.2
 
   joined : (a : NamedHeap) (last g : ℕ) (r : PassRecord) → IsPassOf a last g r → goes_on_after a last g r ≡ true → (records : List PassRecord) →
@@ -112,13 +110,13 @@ module _ (p : Program) where
   -- passes exist from any generation on
   pub passes_exist : (fuel : ℕ) (a : NamedHeap) (last g : ℕ) → g + fuel ≡ 5 → IsWellFormed p a → HasNoRegions a → (records : List PassRecord) × ArePasses a last g records
   passes_exist zero a last g enough w none =
-      let r = pass_exists p a g (target_of g (raises a last g)) w in
+      let r = pass_exists p a g (target_of g (is_raised a last g)) w in
       elim (cases_Bool (goes_on_after a last g r.0)) [
-        | inl more ↦ (let low = goes_on-low (after_pass_of a last g r.0) last g (raises a last g) more in absurd (omega arith))
+        | inl more ↦ (let low = is_continued-low (after_pass_of a last g r.0) last g (is_raised a last g) more in absurd (omega arith))
         | inr end ↦ (r.0 ∷ [], (r.1, end))
       ]
   passes_exist (suc fuel) a last g enough w none =
-      let r = pass_exists p a g (target_of g (raises a last g)) w in
+      let r = pass_exists p a g (target_of g (is_raised a last g)) w in
       elim (cases_Bool (goes_on_after a last g r.0)) [
         | inl more ↦ (let first = pass_of-well_formed a last g r.0 (omega arith) w none r.1 in
             let rest = passes_exist fuel (after_pass_of a last g r.0) last (g + 1) (omega arith) first.0 first.1 in
@@ -130,9 +128,9 @@ add_zero : (n : ℕ) → n + 0 ≡ n
 add_zero n = omega arith
 
 -- a pass that raises empties its generation
-raised-empty : (a : NamedHeap) (last g : ℕ) (r : PassRecord) → IsSound a → IsPassOf a last g r → raises a last g ≡ true → IsEmptyBelow a g → IsEmptyBelow (after_pass_of a last g r) (g + 1)
+raised-empty : (a : NamedHeap) (last g : ℕ) (r : PassRecord) → IsSound a → IsPassOf a last g r → is_raised a last g ≡ true → IsEmptyBelow a g → IsEmptyBelow (after_pass_of a last g r) (g + 1)
 raised-empty a last g r sound pass raised empty x new e =
-    let was = remaining a g (target_of g (raises a last g)) r sound pass x new e in
+    let was = remaining a g (target_of g (is_raised a last g)) r sound pass x new e in
     let old = empty x was.object was.there in
     let target : r.target ≡ g + 1 = pass.target ∙ rw raised refl in
     rw was.is (elim (cases_Bool (was.object.generation == r.generation)) [
@@ -156,7 +154,7 @@ below-empty p a last g (q ∷ []) r rest low w none empty are = next are
   where
     next : ArePasses a last g (q ∷ r ∷ rest) → IsEmptyBelow (after_pass_of a last g q) (g + 1) × IsPassOf (after_pass_of a last g q) last (g + 1) r
     next are =
-        let raised = goes_on-raised a (after_pass_of a last g q) last g are.1 in
+        let raised = is_continued-raised a (after_pass_of a last g q) last g are.1 in
         (raised-empty a last g q w.sound are.0 raised empty, first_of rest are.2)
       where
         first_of : (rest : List PassRecord) → ArePasses (after_pass_of a last g q) last (g + 1) (r ∷ rest) → IsPassOf (after_pass_of a last g q) last (g + 1) r
@@ -164,8 +162,8 @@ below-empty p a last g (q ∷ []) r rest low w none empty are = next are
         first_of (s ∷ more) are = are.0
 below-empty p a last g (q ∷ s ∷ front) r rest low w none empty are =
     let first = pass_of-well_formed p a last g q low w none are.0 in
-    let raised = goes_on-raised a (after_pass_of a last g q) last g are.1 in
-    let more = goes_on-low (after_pass_of a last g q) last g (raises a last g) are.1 in
+    let raised = is_continued-raised a (after_pass_of a last g q) last g are.1 in
+    let more = is_continued-low (after_pass_of a last g q) last g (is_raised a last g) are.1 in
     let b = below-empty p (after_pass_of a last g q) last (g + 1) (s ∷ front) r rest (omega arith) first.0 first.1 (raised-empty a last g q w.sound are.0 raised empty) are.2 in
     let same : (g + 1) + length (s ∷ front) ≡ g + length (q ∷ s ∷ front) = omega arith in
     subst (λ (n : ℕ). IsEmptyBelow (after_passes a last g (q ∷ s ∷ front)) n × IsPassOf (after_passes a last g (q ∷ s ∷ front)) last n r) same b

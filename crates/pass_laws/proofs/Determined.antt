@@ -13,7 +13,7 @@ use Rattle.heap_terms.specs.Heap.{NamedHeap, object_at}
 use Rattle.heap_terms.specs.Objects.{Object}
 use Rattle.heap_terms.specs.Passes.{IsPass, ArePins, remains, order_of, freed_of, dead_of, kept_of}
 use Rattle.heap_terms.specs.Placement.{placement}
-use Rattle.heap_terms.specs.Policy.{raises, target_of}
+use Rattle.heap_terms.specs.Policy.{is_raised, target_of}
 use Rattle.heap_terms.specs.Survival.{culls_of, breaks_of, queued_of}
 use Rattle.pass_laws.proofs.Lookups.{found_at}
 
@@ -130,13 +130,13 @@ passes_determined a last g [] others one two same = absurd one
 passes_determined a last g (r ∷ rest) [] one two same = absurd two
 passes_determined a last g (r ∷ []) (s ∷ []) one two same =
     (let order : order_of r ≡ order_of s = cc in
-    let first = pass_determined a g (target_of g (raises a last g)) r s one.0 two.0 order in cc)
+    let first = pass_determined a g (target_of g (is_raised a last g)) r s one.0 two.0 order in cc)
 passes_determined a last g (r ∷ []) (s ∷ s' ∷ rest') one two same = cc
 passes_determined a last g (r ∷ r' ∷ rest) (s ∷ []) one two same = cc
 passes_determined a last g (r ∷ r' ∷ rest) (s ∷ s' ∷ rest') one two same =
     let order : order_of r ≡ order_of s = cc in
     let orders : map order_of (r' ∷ rest) ≡ map order_of (s' ∷ rest') = cc in
-    let first = pass_determined a g (target_of g (raises a last g)) r s one.0 two.0 order in
+    let first = pass_determined a g (target_of g (is_raised a last g)) r s one.0 two.0 order in
     let two' : ArePasses (after_pass_of a last g r) last (g + 1) (s' ∷ rest') = subst (λ (x : PassRecord). ArePasses (after_pass_of a last g x) last (g + 1) (s' ∷ rest')) (sym first) two.2 in
     let others = passes_determined (after_pass_of a last g r) last (g + 1) (r' ∷ rest) (s' ∷ rest') one.2 two' orders in
     cc

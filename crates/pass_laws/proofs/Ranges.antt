@@ -25,12 +25,12 @@ use Rattle.heap_terms.specs.Sound.{IsFinalizer}
 use Rattle.heap_terms.specs.Survival.{is_kept, culled_from, culls_in, culls_of}
 use Rattle.heap_terms.specs.WellFormed.{IsWellFormed}
 use Rattle.heap_terms.specs.Collections.{closed, after_pass_of, ArePasses, IsCollection}
-use Rattle.heap_terms.specs.Policy.{raises, target_of}
+use Rattle.heap_terms.specs.Policy.{is_raised, target_of}
 use Rattle.pass_laws.specs.NoRegions.{HasNoRegions}
 use Rattle.pass_laws.specs.PlainRecords.{IsName, IsIndex, IsNewIndex, IsSide, IsPlainRecord}
 use Rattle.pass_laws.specs.Spread.{settled}
 use Rattle.pass_laws.proofs.AfterPages.{spread, objects_long}
-use Rattle.pass_laws.proofs.Collecting.{goes_on-low, target-most, pass_of-well_formed, closed_none, closed-well_formed}
+use Rattle.pass_laws.proofs.Collecting.{is_continued-low, target-most, pass_of-well_formed, closed_none, closed-well_formed}
 use Rattle.pass_laws.proofs.LiveNames.{object_below}
 use Rattle.pass_laws.proofs.Sizes.{words_least}
 use Rattle.pass_laws.proofs.Spreading.{IsMoveOf}
@@ -162,13 +162,13 @@ passes_plain : (p : Program) (a : NamedHeap) (last g : ℕ) (records : List Pass
 passes_plain p a last g [] low w none pages few are = absurd are
 passes_plain p a last g (r ∷ []) low w none pages few are =
     let target = target-most a last g low in
-    All-cons IsPlainRecord r [] (record_plain p a g (target_of g (raises a last g)) r w few pages are.0 low (omega arith)) (All-nil IsPlainRecord)
+    All-cons IsPlainRecord r [] (record_plain p a g (target_of g (is_raised a last g)) r w few pages are.0 low (omega arith)) (All-nil IsPlainRecord)
 passes_plain p a last g (r ∷ s ∷ rest) low w none pages few are =
     let target = target-most a last g low in
     let next = pass_of-well_formed p a last g r low w none are.0 in
-    let more = goes_on-low (after_pass_of a last g r) last g (raises a last g) are.1 in
-    let long : length (after_pass_of a last g r).objects ≡ length a.objects = objects_long a g (target_of g (raises a last g)) r w.sound are.0 in
-    All-cons IsPlainRecord r (s ∷ rest) (record_plain p a g (target_of g (raises a last g)) r w few pages are.0 low (omega arith))
+    let more = is_continued-low (after_pass_of a last g r) last g (is_raised a last g) are.1 in
+    let long : length (after_pass_of a last g r).objects ≡ length a.objects = objects_long a g (target_of g (is_raised a last g)) r w.sound are.0 in
+    All-cons IsPlainRecord r (s ∷ rest) (record_plain p a g (target_of g (is_raised a last g)) r w few pages are.0 low (omega arith))
     (passes_plain p (after_pass_of a last g r) last (g + 1) (s ∷ rest) (omega arith) next.0 next.1 pages (omega arith) are.2)
 
 pub collection_plain : (p : Program) (a : NamedHeap) (last : ℕ) (records : List PassRecord) → IsWellFormed p a → p.pages ≤ 1024 → length a.objects ≤ 20000 →

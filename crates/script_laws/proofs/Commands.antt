@@ -11,7 +11,7 @@ use Rattle.heap_terms.specs.Fields.{is_fixnum, is_i64}
 use Rattle.heap_terms.specs.Grammar.{Does, rows, statement_of}
 use Rattle.heap_terms.specs.ScriptReading.{SoFar, InThread, may_follow, judged, judged_word, within_limits}
 use Rattle.heap_terms.specs.Text.{cell_text, word_text, weakness_text, command_text}
-use Rattle.heap_terms.specs.Valid.{IsFixnum, IsSigned, IsCommand, IsInRange, NamesYoungest, name_of, is_built}
+use Rattle.heap_terms.specs.Valid.{IsFixnum, IsSigned, IsCommand, IsInRange, name_of, is_built}
 use Rattle.script_laws.proofs.Lines.{IsWord, written, spaced}
 use Rattle.script_laws.proofs.FieldTexts.{decimal_word, number_decimal, signed_text, signed_word, fixnum_signed, cell_said, cell_word, raw_text, raw_said, raw_is_word, raw_word_said, raw_word_word, weakness_said, weakness_word}
 
@@ -192,42 +192,42 @@ i64_is (negsuc n) h = lt-ltb n (2 ^ 63) h
 most : (n m : ℕ) → n ≤ m → leb n m ≡ true
 most n m h = le-leb n m h
 
-pub said : (c : Command) (threads : ℕ) → IsInRange c → NamesYoungest c → statement_of threads (name_of c) (fields_of c) ≡ Ok (Does c)
+pub said : (c : Command) (threads : ℕ) → IsInRange c → statement_of threads (name_of c) (fields_of c) ≡ Ok (Does c)
 unfolding statement_of rows fields_of
-said (Fix d n) threads h y = rw (cell_said d h.0, signed_text n (fixnum_signed n h.1), fixnum_is n h.1) refl
-said (MakeNil d) threads h y = rw (cell_said d h) refl
-said (Move d c) threads h y = rw (cell_said d h.0, cell_said c h.1) refl
-said (NewCons d a b) threads h y = rw (cell_said d h.0, cell_said a h.1, cell_said b h.2) refl
-said (NewVector d n) threads h y = rw (cell_said d h.0, number_decimal n (omega (arith, h.1)), most n 65535 (omega (arith, h.1))) refl
-said (NewInstance d n) threads h y = rw (cell_said d h.0, number_decimal n (omega (arith, h.1)), most n 65535 (omega (arith, h.1))) refl
-said (NewClosure d n) threads h y = rw (cell_said d h.0, number_decimal n (omega (arith, h.1)), most n 65535 (omega (arith, h.1))) refl
-said (NewWords d n w) threads h y = rw (cell_said d h.0, number_decimal n (omega (arith, h.1)), most n 65535 (omega (arith, h.1)), raw_word_said w h.2) refl
-said (NewWeak d c) threads h y = rw (cell_said d h.0, cell_said c h.1) refl
-said (NewTable d w b) threads h y = rw (cell_said d h.0, weakness_said w, number_decimal b (omega (arith, h.2)), most 1 b h.1, most b 64 h.2) refl
-said (Get d c i) threads h y = rw (cell_said d h.0, cell_said c h.1, number_decimal i (omega (arith, h.2)), most i 65535 (omega (arith, h.2))) refl
-said (Put c i a) threads h y = rw (cell_said c h.0, number_decimal i (omega (arith, h.1)), most i 65535 (omega (arith, h.1)), cell_said a h.2) refl
-said (RawGet r c i) threads h y = rw (raw_said r h.0, cell_said c h.1, number_decimal i (omega (arith, h.2)), most i 65535 (omega (arith, h.2))) refl
-said (RawPut c i r) threads h y = rw (cell_said c h.0, number_decimal i (omega (arith, h.1)), most i 65535 (omega (arith, h.1)), raw_said r h.2) refl
-said (Same a b) threads h y = rw (cell_said a h.0, cell_said b h.1) refl
-said (Show c) threads h y = rw (cell_said c h) refl
-said (Addr r c) threads h y = rw (raw_said r h.0, cell_said c h.1) refl
-said (SetRaw r w) threads h y = rw (raw_said r h.0, raw_word_said w h.1) refl
-said (AddRaw r k) threads h y = rw (raw_said r h.0, signed_text k h.1, i64_is k h.1) refl
-said (Pin c) threads h y = rw (cell_said c h) refl
-said Unpin threads h y = refl
-said (WeakVal d c) threads h y = rw (cell_said d h.0, cell_said c h.1) refl
-said (TablePut c k v) threads h y = rw (cell_said c h.0, cell_said k h.1, cell_said v h.2) refl
-said (TableGet d c k) threads h y = rw (cell_said d h.0, cell_said c h.1, cell_said k h.2) refl
-said (TableRem c k) threads h y = rw (cell_said c h.0, cell_said k h.1) refl
-said (TableCount c) threads h y = rw (cell_said c h) refl
-said (Finalize c id) threads h y = rw (cell_said c h.0, number_decimal id (omega (arith, h.1)), most id 4294967295 (omega (arith, h.1))) refl
-said (Cancel c) threads h y = rw (cell_said c h) refl
-said RunFinalizers threads h y = refl
-said (Collect g) threads h y = rw (y, number_decimal 0 (omega arith)) refl
-said Inhibit threads h y = refl
-said Allow threads h y = refl
-said (ShowPage p) threads h y = rw (number_decimal p (omega (arith, h)), most p 4294967295 (omega (arith, h))) refl
-said (Stat g) threads h y = rw (number_decimal g (omega (arith, h)), most g 6 (omega (arith, h))) refl
+said (Fix d n) threads h = rw (cell_said d h.0, signed_text n (fixnum_signed n h.1), fixnum_is n h.1) refl
+said (MakeNil d) threads h = rw (cell_said d h) refl
+said (Move d c) threads h = rw (cell_said d h.0, cell_said c h.1) refl
+said (NewCons d a b) threads h = rw (cell_said d h.0, cell_said a h.1, cell_said b h.2) refl
+said (NewVector d n) threads h = rw (cell_said d h.0, number_decimal n (omega (arith, h.1)), most n 65535 (omega (arith, h.1))) refl
+said (NewInstance d n) threads h = rw (cell_said d h.0, number_decimal n (omega (arith, h.1)), most n 65535 (omega (arith, h.1))) refl
+said (NewClosure d n) threads h = rw (cell_said d h.0, number_decimal n (omega (arith, h.1)), most n 65535 (omega (arith, h.1))) refl
+said (NewWords d n w) threads h = rw (cell_said d h.0, number_decimal n (omega (arith, h.1)), most n 65535 (omega (arith, h.1)), raw_word_said w h.2) refl
+said (NewWeak d c) threads h = rw (cell_said d h.0, cell_said c h.1) refl
+said (NewTable d w b) threads h = rw (cell_said d h.0, weakness_said w, number_decimal b (omega (arith, h.2)), most 1 b h.1, most b 64 h.2) refl
+said (Get d c i) threads h = rw (cell_said d h.0, cell_said c h.1, number_decimal i (omega (arith, h.2)), most i 65535 (omega (arith, h.2))) refl
+said (Put c i a) threads h = rw (cell_said c h.0, number_decimal i (omega (arith, h.1)), most i 65535 (omega (arith, h.1)), cell_said a h.2) refl
+said (RawGet r c i) threads h = rw (raw_said r h.0, cell_said c h.1, number_decimal i (omega (arith, h.2)), most i 65535 (omega (arith, h.2))) refl
+said (RawPut c i r) threads h = rw (cell_said c h.0, number_decimal i (omega (arith, h.1)), most i 65535 (omega (arith, h.1)), raw_said r h.2) refl
+said (Same a b) threads h = rw (cell_said a h.0, cell_said b h.1) refl
+said (Show c) threads h = rw (cell_said c h) refl
+said (Addr r c) threads h = rw (raw_said r h.0, cell_said c h.1) refl
+said (SetRaw r w) threads h = rw (raw_said r h.0, raw_word_said w h.1) refl
+said (AddRaw r k) threads h = rw (raw_said r h.0, signed_text k h.1, i64_is k h.1) refl
+said (Pin c) threads h = rw (cell_said c h) refl
+said Unpin threads h = refl
+said (WeakVal d c) threads h = rw (cell_said d h.0, cell_said c h.1) refl
+said (TablePut c k v) threads h = rw (cell_said c h.0, cell_said k h.1, cell_said v h.2) refl
+said (TableGet d c k) threads h = rw (cell_said d h.0, cell_said c h.1, cell_said k h.2) refl
+said (TableRem c k) threads h = rw (cell_said c h.0, cell_said k h.1) refl
+said (TableCount c) threads h = rw (cell_said c h) refl
+said (Finalize c id) threads h = rw (cell_said c h.0, number_decimal id (omega (arith, h.1)), most id 4294967295 (omega (arith, h.1))) refl
+said (Cancel c) threads h = rw (cell_said c h) refl
+said RunFinalizers threads h = refl
+said (Collect g) threads h = rw (number_decimal g (omega (arith, h)), most g 5 (omega (arith, h))) refl
+said Inhibit threads h = refl
+said Allow threads h = refl
+said (ShowPage p) threads h = rw (number_decimal p (omega (arith, h)), most p 4294967295 (omega (arith, h))) refl
+said (Stat g) threads h = rw (number_decimal g (omega (arith, h)), most g 6 (omega (arith, h))) refl
 
 -- a name begins no comment, and may stand behind a `thread` line
 no_comment : (c : Command) → eqb (slice_index (name_of c) 0) 59 ≡ false
@@ -308,6 +308,6 @@ unfolding judged judged_word
 word_judged word s fs plain built follow at = rw (plain, built, at, follow) refl
 
 -- how such a line is judged behind a `thread` line
-pub command_judged : (c : Command) (s : SoFar) → IsCommand c → NamesYoungest c → s.place ≡ InThread →
+pub command_judged : (c : Command) (s : SoFar) → IsCommand c → s.place ≡ InThread →
     judged s (name_of c ∷ fields_of c) ≡ within_limits s (Ok (Does c))
-command_judged c s h y at = word_judged (name_of c) s (fields_of c) (no_comment c) h.built (follows c) at ∙ ap (within_limits s) (said c (length s.program.threads) h.in_range y)
+command_judged c s h at = word_judged (name_of c) s (fields_of c) (no_comment c) h.built (follows c) at ∙ ap (within_limits s) (said c (length s.program.threads) h.in_range)

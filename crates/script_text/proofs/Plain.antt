@@ -158,6 +158,7 @@ no_comment names.Pin = refl
 no_comment names.Unpin = refl
 no_comment names.Gc = refl
 no_comment names.Page = refl
+no_comment names.Stat = refl
 no_comment names.Nogc = refl
 no_comment names.Gcok = refl
 
@@ -183,6 +184,7 @@ follows names.Pin = refl
 follows names.Unpin = refl
 follows names.Gc = refl
 follows names.Page = refl
+follows names.Stat = refl
 follows names.Nogc = refl
 follows names.Gcok = refl
 

@@ -45,8 +45,9 @@ row_of names.Raw = row (codes "raw") (RawCell ∷ RawWord ∷ []) (λ r w. Does 
 row_of names.Add = row (codes "add") (RawCell ∷ Signed is_i64 ∷ []) (λ r k. Does (commands.AddRaw r k))
 row_of names.Pin = row (codes "pin") (LispCell ∷ []) (λ c. Does (commands.Pin c))
 row_of names.Unpin = row (codes "unpin") [] (Does commands.Unpin)
-row_of names.Gc = row (codes "gc") (Number (at_most 0) ∷ []) (λ g. Does (commands.Collect g))
+row_of names.Gc = row (codes "gc") (Number (at_most 5) ∷ []) (λ g. Does (commands.Collect g))
 row_of names.Page = row (codes "page") (Wide ∷ []) (λ p. Does (commands.ShowPage p))
+row_of names.Stat = row (codes "stat") (Number (at_most 6) ∷ []) (λ g. Does (commands.Stat g))
 row_of names.Nogc = row (codes "nogc") [] (Does commands.Inhibit)
 row_of names.Gcok = row (codes "gcok") [] (Does commands.Allow)
 
@@ -73,6 +74,7 @@ statement_is names.Pin threads fs = refl
 statement_is names.Unpin threads fs = refl
 statement_is names.Gc threads fs = refl
 statement_is names.Page threads fs = refl
+statement_is names.Stat threads fs = refl
 statement_is names.Nogc threads fs = refl
 statement_is names.Gcok threads fs = refl
 
@@ -124,8 +126,9 @@ front_is names.Raw fs = two RawCell RawWord commands.SetRaw fs
 front_is names.Add fs = two RawCell (Signed is_i64) commands.AddRaw fs
 front_is names.Pin fs = one LispCell commands.Pin fs
 front_is names.Unpin fs = refl
-front_is names.Gc fs = one (Number (at_most 0)) commands.Collect fs
+front_is names.Gc fs = one (Number (at_most 5)) commands.Collect fs
 front_is names.Page fs = one Wide commands.ShowPage fs
+front_is names.Stat fs = one (Number (at_most 6)) commands.Stat fs
 front_is names.Nogc fs = refl
 front_is names.Gcok fs = refl
 
@@ -152,6 +155,7 @@ count_is names.Pin = refl
 count_is names.Unpin = refl
 count_is names.Gc = refl
 count_is names.Page = refl
+count_is names.Stat = refl
 count_is names.Nogc = refl
 count_is names.Gcok = refl
 

@@ -4,8 +4,8 @@ use Rattle.std.specs.Prelude.{codes, IfOk, IfErr}
 use Rattle.std.proofs.lemmas.Bool.{ne_eqb}
 use Rattle.heap_terms.specs.declared.faults.Why.{Why}
 use Rattle.heap_terms.specs.declared.faults.Why.TheVariants.{Fields}
-use Rattle.heap_terms.specs.Fields.{◌>>=◌, number_of, ranged, between, at_least}
-use Rattle.heap_terms.specs.Grammar.{FieldForm, Number, Meaning, Statement, Version, HeapOf, NewThread, EndOfScript, schedule_of, row, meaning_of, said_by, rows, statement_of}
+use Rattle.heap_terms.specs.Fields.{◌>>=◌, number_of, ranged, between, at_least, is_auto}
+use Rattle.heap_terms.specs.Grammar.{FieldForm, Number, Meaning, Statement, Version, HeapOf, AutoOf, NewThread, EndOfScript, schedule_of, row, meaning_of, said_by, rows, statement_of}
 use Rattle.script_text.specs.declared.words.Keyword.{Keyword}
 use Rattle.script_text.specs.declared.words.Keyword.TheVariants as keywords
 use Rattle.script_text.specs.ReaderAnswers.{only_field}
@@ -74,6 +74,24 @@ pub heap_bad_result : (fs : List (List ℕ)) (f : List ℕ) (r : Result ℕ Why)
     → IfErr r (λ why. (threads : ℕ) → statement_of threads (codes "heap") fs ≡ Err why)
 heap_bad_result fs f (Ok pages) only read = tt
 heap_bad_result fs f (Err why) only read = λ threads. heap_bad threads fs f why only read
+
+auto_said : (threads : ℕ) (fs : List (List ℕ)) → statement_of threads (codes "auto") fs ≡ (only_field fs >>= λ f. meaning_of (Number is_auto) f >>= λ v. Ok (AutoOf v))
+unfolding statement_of rows
+auto_said threads fs = one_said (codes "auto") (Number is_auto) (λ v. AutoOf v) fs
+
+-- a number of `auto`, whatever it was read as
+pub auto_fields : (threads : ℕ) (fs : List (List ℕ)) (why : Why) → only_field fs ≡ Err why → statement_of threads (codes "auto") fs ≡ Err why
+auto_fields threads fs why only = auto_said threads fs ∙ rw only refl
+
+pub auto_good : (fs : List (List ℕ)) (f : List ℕ) (r : Result ℕ Why) → only_field fs ≡ Ok f → r ≡ ranged is_auto (number_of f)
+    → IfOk r (λ words. (threads : ℕ) → statement_of threads (codes "auto") fs ≡ Ok (AutoOf words))
+auto_good fs f (Ok words) only read = λ threads. auto_said threads fs ∙ rw (only, ← read) refl
+auto_good fs f (Err why) only read = tt
+
+pub auto_bad : (fs : List (List ℕ)) (f : List ℕ) (r : Result ℕ Why) → only_field fs ≡ Ok f → r ≡ ranged is_auto (number_of f)
+    → IfErr r (λ why. (threads : ℕ) → statement_of threads (codes "auto") fs ≡ Err why)
+auto_bad fs f (Ok words) only read = tt
+auto_bad fs f (Err why) only read = λ threads. auto_said threads fs ∙ rw (only, ← read) refl
 
 -- the lines of a word alone
 pub thread_good : (word : Keyword) (threads : ℕ) (fs : List (List ℕ)) → word ≡ keywords.Thread → length fs ≡ 0 → statement_of threads (text_of word) fs ≡ Ok NewThread

@@ -3,7 +3,7 @@ use Rattle.std.proofs.Common.{◌≡◌, ℕ, ℤ, pos, negsuc, ◌+◌, ◌≤�
 use Rattle.std.specs.Prelude.{codes, bytes_eq, sum_by, count_by, slice_index, find}
 use Rattle.std.specs.List.{All}
 use Rattle.std.specs.Str.Lines.{lines}
-use Rattle.std.proofs.lemmas.Bool.{and_parts, ltb-true, ltb-false, leb-true, false≢true}
+use Rattle.std.proofs.lemmas.Bool.{and_parts, or_cases, eqb-true, ltb-true, ltb-false, leb-true, false≢true}
 use Rattle.std.proofs.lemmas.List.Elements.{All-nil, All-cons, All-head, All-tail, All-push, All-append, All-weaker}
 use Rattle.std.proofs.lemmas.List.Sums.{sum_by-append}
 use Rattle.std.proofs.lemmas.Slice.Eq.{bytes_eq-Decides}
@@ -17,16 +17,11 @@ use Rattle.heap_terms.specs.declared.programs.Program.{Program}
 use Rattle.heap_terms.specs.Fields.{◌>>=◌, between, at_least, at_most, is_auto, is_fixnum, is_i64, fields_in}
 use Rattle.heap_terms.specs.Grammar.{LispCell, RawCell, RawWord, WeaknessWord, Number, Signed, Wide, Statement, Version, HeapOf, AutoOf, NewThread, Does, Turns, EndOfScript, Row, Small, row, said_by_row_of, schedule_of, statement_of, turns_of_all, rows}
 use Rattle.heap_terms.specs.ScriptReading.{Place, AtStart, AfterVersion, AfterHeap, AfterAuto, InThread, InSchedule, AfterEnd, SoFar, nothing_read, Refused, Bad, may_follow, place_after, onto_last, with_statement, unless_above, limit_of_command, limit_passed, unless_passed, within_limits, judged_word, judged, Fault, fault_at, finished_at, read_lines, read_script}
-use Rattle.heap_terms.specs.Valid.{IsCommand, IsFixnum, IsInRange, IsSigned, IsValid, NamesYoungest, is_built, is_gc, name_of}
+use Rattle.heap_terms.specs.Valid.{IsCommand, IsFixnum, IsInRange, IsSigned, IsValid, IsAuto, is_built, is_gc, name_of}
 use Rattle.script_text.proofs.Fitting.{EachSaid, row_said, turns_below}
 use Rattle.script_text.proofs.Sums.{length-onto_last, commands-onto_last, gcs-onto_last}
 
 -- ---- what a line says
-
--- a command that may stand in a program
-pub record Sound (c : Command) : Type 0 where
-  command : IsCommand c
-  youngest : NamesYoungest c
 
 -- a place after a `heap` line, and one after a `thread` line
 unfoldable pub HasHeap : Place → Type 0
@@ -44,9 +39,9 @@ HasThread _ = ⊥
 unfoldable pub May : Place → ℕ → Statement → Type 0
 May place threads Version = Unit {0}
 May place threads (HeapOf n) = 1 ≤ n
-May place threads (AutoOf n) = ⊥
+May place threads (AutoOf n) = IsAuto n × HasHeap place
 May place threads NewThread = HasHeap place
-May place threads (Does c) = Sound c × HasThread place
+May place threads (Does c) = IsCommand c × HasThread place
 May place threads (Turns ts) = All (λ t. t < threads) ts × HasThread place
 May place threads EndOfScript = HasThread place
 
@@ -59,6 +54,16 @@ heap_before AfterAuto e = tt
 heap_before InThread e = tt
 heap_before InSchedule e = tt
 heap_before AfterEnd e = tt
+
+auto_before : (place : Place) → may_follow place (codes "auto") ≡ true → HasHeap place
+unfolding HasHeap
+auto_before AtStart e = false≢true e
+auto_before AfterVersion e = false≢true e
+auto_before AfterHeap e = tt
+auto_before AfterAuto e = tt
+auto_before InThread e = tt
+auto_before InSchedule e = tt
+auto_before AfterEnd e = tt
 
 -- a word that may stand at no place before the first thread
 record IsLate (word : List ℕ) : Type 0 where
@@ -88,19 +93,18 @@ signed_is (negsuc n) e = ltb-true n (2 ^ 63) e
 narrow : (n : ℕ) → leb n 4294967295 ≡ true → n < 2 ^ 32
 narrow n e = let most : n ≤ 4294967295 = leb-true n 4294967295 e in omega arith
 
--- until generations are built a `gc` names generation 0
-none : (n : ℕ) → leb n 0 ≡ true → n ≡ 0
-none n e = let most : n ≤ 0 = leb-true n 0 e in omega arith
-
-none_most : (n : ℕ) → leb n 0 ≡ true → n ≤ 5
-none_most n e = let most : n ≤ 0 = leb-true n 0 e in omega arith
+auto_is : (n : ℕ) → is_auto n ≡ true → IsAuto n
+auto_is n e = elim (or_cases (eqb n 0) (between 512 524288 n) e) [
+  | inl none ↦ inl (eqb-true n 0 none)
+  | inr some ↦ (let parts = and_parts (leb 512 n) (leb n 524288) some in inr (leb-true 512 n parts.0, leb-true n 524288 parts.1))
+]
 
 some_same : (x r : Row) → Some x ≡ Some r → x ≡ r
 some_same x r e = cc
 
--- a command with its fields in range is sound
-sound : {c : Command} → is_built (name_of c) ≡ true → IsInRange c → NamesYoungest c → Sound c
-sound built in_range youngest = record { command = record { built = built; in_range = in_range }; youngest = youngest }
+-- a command with its fields in range may stand in a program
+sound : {c : Command} → is_built (name_of c) ≡ true → IsInRange c → IsCommand c
+sound built in_range = record { built = built; in_range = in_range }
 
 late : {word : List ℕ} → may_follow AtStart word ≡ false → may_follow AfterVersion word ≡ false → may_follow AfterHeap word ≡ false → may_follow AfterAuto word ≡ false → IsLate word
 late a b c d = record { start = a; version = b; heap = c; auto = d }
@@ -126,9 +130,9 @@ good_heap : IsGood (row (codes "heap") (Number (at_least 1) ∷ []) (λ n. HeapO
 unfolding May
 good_heap = record { says = λ place threads built e n h. leb-true _ _ h }
 
--- `auto` is not built
 good_auto : IsGood (row (codes "auto") (Number is_auto ∷ []) (λ n. AutoOf n))
-good_auto = record { says = λ place threads built e n h. absurd (false≢true built) }
+unfolding May
+good_auto = record { says = λ place threads built e n h. (auto_is n h, auto_before place e) }
 
 good_thread : IsGood (row (codes "thread") [] NewThread)
 unfolding May
@@ -140,139 +144,139 @@ good_end = record { says = λ place threads built e. thread_before (codes "end")
 
 good_fix : IsGood (row (codes "fix") (LispCell ∷ Signed is_fixnum ∷ []) (λ d n. Does (commands.Fix d n)))
 unfolding May
-good_fix = record { says = λ place threads built e d hd n hn. (sound built (hd, fixnum_is n hn) tt, thread_before (codes "fix") place (late refl refl refl refl) e) }
+good_fix = record { says = λ place threads built e d hd n hn. (sound built (hd, fixnum_is n hn), thread_before (codes "fix") place (late refl refl refl refl) e) }
 
 good_nil : IsGood (row (codes "nil") (LispCell ∷ []) (λ d. Does (commands.MakeNil d)))
 unfolding May
-good_nil = record { says = λ place threads built e d hd. (sound built (hd) tt, thread_before (codes "nil") place (late refl refl refl refl) e) }
+good_nil = record { says = λ place threads built e d hd. (sound built (hd), thread_before (codes "nil") place (late refl refl refl refl) e) }
 
 good_move : IsGood (row (codes "move") (LispCell ∷ LispCell ∷ []) (λ d c. Does (commands.Move d c)))
 unfolding May
-good_move = record { says = λ place threads built e d hd c hc. (sound built (hd, hc) tt, thread_before (codes "move") place (late refl refl refl refl) e) }
+good_move = record { says = λ place threads built e d hd c hc. (sound built (hd, hc), thread_before (codes "move") place (late refl refl refl refl) e) }
 
 good_cons : IsGood (row (codes "cons") (LispCell ∷ LispCell ∷ LispCell ∷ []) (λ d a b. Does (commands.NewCons d a b)))
 unfolding May
-good_cons = record { says = λ place threads built e d hd a ha b hb. (sound built (hd, ha, hb) tt, thread_before (codes "cons") place (late refl refl refl refl) e) }
+good_cons = record { says = λ place threads built e d hd a ha b hb. (sound built (hd, ha, hb), thread_before (codes "cons") place (late refl refl refl refl) e) }
 
 good_vector : IsGood (row (codes "vector") (LispCell ∷ Small ∷ []) (λ d n. Does (commands.NewVector d n)))
 unfolding May
-good_vector = record { says = λ place threads built e d hd n hn. (sound built (hd, leb-true _ _ hn) tt, thread_before (codes "vector") place (late refl refl refl refl) e) }
+good_vector = record { says = λ place threads built e d hd n hn. (sound built (hd, leb-true _ _ hn), thread_before (codes "vector") place (late refl refl refl refl) e) }
 
 good_instance : IsGood (row (codes "instance") (LispCell ∷ Small ∷ []) (λ d n. Does (commands.NewInstance d n)))
 unfolding May
-good_instance = record { says = λ place threads built e d hd n hn. (sound built (hd, leb-true _ _ hn) tt, thread_before (codes "instance") place (late refl refl refl refl) e) }
+good_instance = record { says = λ place threads built e d hd n hn. (sound built (hd, leb-true _ _ hn), thread_before (codes "instance") place (late refl refl refl refl) e) }
 
 good_closure : IsGood (row (codes "closure") (LispCell ∷ Small ∷ []) (λ d n. Does (commands.NewClosure d n)))
 unfolding May
-good_closure = record { says = λ place threads built e d hd n hn. (sound built (hd, leb-true _ _ hn) tt, thread_before (codes "closure") place (late refl refl refl refl) e) }
+good_closure = record { says = λ place threads built e d hd n hn. (sound built (hd, leb-true _ _ hn), thread_before (codes "closure") place (late refl refl refl refl) e) }
 
 good_words : IsGood (row (codes "words") (LispCell ∷ Small ∷ RawWord ∷ []) (λ d n w. Does (commands.NewWords d n w)))
 unfolding May
-good_words = record { says = λ place threads built e d hd n hn w hw. (sound built (hd, leb-true _ _ hn, hw) tt, thread_before (codes "words") place (late refl refl refl refl) e) }
+good_words = record { says = λ place threads built e d hd n hn w hw. (sound built (hd, leb-true _ _ hn, hw), thread_before (codes "words") place (late refl refl refl refl) e) }
 
 good_weak : IsGood (row (codes "weak") (LispCell ∷ LispCell ∷ []) (λ d c. Does (commands.NewWeak d c)))
 unfolding May
-good_weak = record { says = λ place threads built e d hd c hc. (sound built (hd, hc) tt, thread_before (codes "weak") place (late refl refl refl refl) e) }
+good_weak = record { says = λ place threads built e d hd c hc. (sound built (hd, hc), thread_before (codes "weak") place (late refl refl refl refl) e) }
 
 good_table : IsGood (row (codes "table") (LispCell ∷ WeaknessWord ∷ Number (between 1 64) ∷ []) (λ d w b. Does (commands.NewTable d w b)))
 unfolding May
-good_table = record { says = λ place threads built e d hd w hw b hb. (sound built (hd, leb-true _ _ (and_parts (leb 1 b) (leb b 64) hb).0, leb-true _ _ (and_parts (leb 1 b) (leb b 64) hb).1) tt, thread_before (codes "table") place (late refl refl refl refl) e) }
+good_table = record { says = λ place threads built e d hd w hw b hb. (sound built (hd, leb-true _ _ (and_parts (leb 1 b) (leb b 64) hb).0, leb-true _ _ (and_parts (leb 1 b) (leb b 64) hb).1), thread_before (codes "table") place (late refl refl refl refl) e) }
 
 good_get : IsGood (row (codes "get") (LispCell ∷ LispCell ∷ Small ∷ []) (λ d c i. Does (commands.Get d c i)))
 unfolding May
-good_get = record { says = λ place threads built e d hd c hc i hi. (sound built (hd, hc, leb-true _ _ hi) tt, thread_before (codes "get") place (late refl refl refl refl) e) }
+good_get = record { says = λ place threads built e d hd c hc i hi. (sound built (hd, hc, leb-true _ _ hi), thread_before (codes "get") place (late refl refl refl refl) e) }
 
 good_put : IsGood (row (codes "put") (LispCell ∷ Small ∷ LispCell ∷ []) (λ c i a. Does (commands.Put c i a)))
 unfolding May
-good_put = record { says = λ place threads built e c hc i hi a ha. (sound built (hc, leb-true _ _ hi, ha) tt, thread_before (codes "put") place (late refl refl refl refl) e) }
+good_put = record { says = λ place threads built e c hc i hi a ha. (sound built (hc, leb-true _ _ hi, ha), thread_before (codes "put") place (late refl refl refl refl) e) }
 
 good_rawget : IsGood (row (codes "rawget") (RawCell ∷ LispCell ∷ Small ∷ []) (λ r c i. Does (commands.RawGet r c i)))
 unfolding May
-good_rawget = record { says = λ place threads built e r hr c hc i hi. (sound built (hr, hc, leb-true _ _ hi) tt, thread_before (codes "rawget") place (late refl refl refl refl) e) }
+good_rawget = record { says = λ place threads built e r hr c hc i hi. (sound built (hr, hc, leb-true _ _ hi), thread_before (codes "rawget") place (late refl refl refl refl) e) }
 
 good_rawput : IsGood (row (codes "rawput") (LispCell ∷ Small ∷ RawCell ∷ []) (λ c i r. Does (commands.RawPut c i r)))
 unfolding May
-good_rawput = record { says = λ place threads built e c hc i hi r hr. (sound built (hc, leb-true _ _ hi, hr) tt, thread_before (codes "rawput") place (late refl refl refl refl) e) }
+good_rawput = record { says = λ place threads built e c hc i hi r hr. (sound built (hc, leb-true _ _ hi, hr), thread_before (codes "rawput") place (late refl refl refl refl) e) }
 
 good_eq : IsGood (row (codes "eq") (LispCell ∷ LispCell ∷ []) (λ a b. Does (commands.Same a b)))
 unfolding May
-good_eq = record { says = λ place threads built e a ha b hb. (sound built (ha, hb) tt, thread_before (codes "eq") place (late refl refl refl refl) e) }
+good_eq = record { says = λ place threads built e a ha b hb. (sound built (ha, hb), thread_before (codes "eq") place (late refl refl refl refl) e) }
 
 good_show : IsGood (row (codes "show") (LispCell ∷ []) (λ c. Does (commands.Show c)))
 unfolding May
-good_show = record { says = λ place threads built e c hc. (sound built (hc) tt, thread_before (codes "show") place (late refl refl refl refl) e) }
+good_show = record { says = λ place threads built e c hc. (sound built (hc), thread_before (codes "show") place (late refl refl refl refl) e) }
 
 good_addr : IsGood (row (codes "addr") (RawCell ∷ LispCell ∷ []) (λ r c. Does (commands.Addr r c)))
 unfolding May
-good_addr = record { says = λ place threads built e r hr c hc. (sound built (hr, hc) tt, thread_before (codes "addr") place (late refl refl refl refl) e) }
+good_addr = record { says = λ place threads built e r hr c hc. (sound built (hr, hc), thread_before (codes "addr") place (late refl refl refl refl) e) }
 
 good_raw : IsGood (row (codes "raw") (RawCell ∷ RawWord ∷ []) (λ r w. Does (commands.SetRaw r w)))
 unfolding May
-good_raw = record { says = λ place threads built e r hr w hw. (sound built (hr, hw) tt, thread_before (codes "raw") place (late refl refl refl refl) e) }
+good_raw = record { says = λ place threads built e r hr w hw. (sound built (hr, hw), thread_before (codes "raw") place (late refl refl refl refl) e) }
 
 good_add : IsGood (row (codes "add") (RawCell ∷ Signed is_i64 ∷ []) (λ r k. Does (commands.AddRaw r k)))
 unfolding May
-good_add = record { says = λ place threads built e r hr k hk. (sound built (hr, signed_is k hk) tt, thread_before (codes "add") place (late refl refl refl refl) e) }
+good_add = record { says = λ place threads built e r hr k hk. (sound built (hr, signed_is k hk), thread_before (codes "add") place (late refl refl refl refl) e) }
 
 good_pin : IsGood (row (codes "pin") (LispCell ∷ []) (λ c. Does (commands.Pin c)))
 unfolding May
-good_pin = record { says = λ place threads built e c hc. (sound built (hc) tt, thread_before (codes "pin") place (late refl refl refl refl) e) }
+good_pin = record { says = λ place threads built e c hc. (sound built (hc), thread_before (codes "pin") place (late refl refl refl refl) e) }
 
 good_unpin : IsGood (row (codes "unpin") [] (Does commands.Unpin))
 unfolding May
-good_unpin = record { says = λ place threads built e. (sound built tt tt, thread_before (codes "unpin") place (late refl refl refl refl) e) }
+good_unpin = record { says = λ place threads built e. (sound built tt, thread_before (codes "unpin") place (late refl refl refl refl) e) }
 
 good_weakval : IsGood (row (codes "weakval") (LispCell ∷ LispCell ∷ []) (λ d c. Does (commands.WeakVal d c)))
 unfolding May
-good_weakval = record { says = λ place threads built e d hd c hc. (sound built (hd, hc) tt, thread_before (codes "weakval") place (late refl refl refl refl) e) }
+good_weakval = record { says = λ place threads built e d hd c hc. (sound built (hd, hc), thread_before (codes "weakval") place (late refl refl refl refl) e) }
 
 good_tput : IsGood (row (codes "tput") (LispCell ∷ LispCell ∷ LispCell ∷ []) (λ c k v. Does (commands.TablePut c k v)))
 unfolding May
-good_tput = record { says = λ place threads built e c hc k hk v hv. (sound built (hc, hk, hv) tt, thread_before (codes "tput") place (late refl refl refl refl) e) }
+good_tput = record { says = λ place threads built e c hc k hk v hv. (sound built (hc, hk, hv), thread_before (codes "tput") place (late refl refl refl refl) e) }
 
 good_tget : IsGood (row (codes "tget") (LispCell ∷ LispCell ∷ LispCell ∷ []) (λ d c k. Does (commands.TableGet d c k)))
 unfolding May
-good_tget = record { says = λ place threads built e d hd c hc k hk. (sound built (hd, hc, hk) tt, thread_before (codes "tget") place (late refl refl refl refl) e) }
+good_tget = record { says = λ place threads built e d hd c hc k hk. (sound built (hd, hc, hk), thread_before (codes "tget") place (late refl refl refl refl) e) }
 
 good_trem : IsGood (row (codes "trem") (LispCell ∷ LispCell ∷ []) (λ c k. Does (commands.TableRem c k)))
 unfolding May
-good_trem = record { says = λ place threads built e c hc k hk. (sound built (hc, hk) tt, thread_before (codes "trem") place (late refl refl refl refl) e) }
+good_trem = record { says = λ place threads built e c hc k hk. (sound built (hc, hk), thread_before (codes "trem") place (late refl refl refl refl) e) }
 
 good_tcount : IsGood (row (codes "tcount") (LispCell ∷ []) (λ c. Does (commands.TableCount c)))
 unfolding May
-good_tcount = record { says = λ place threads built e c hc. (sound built (hc) tt, thread_before (codes "tcount") place (late refl refl refl refl) e) }
+good_tcount = record { says = λ place threads built e c hc. (sound built (hc), thread_before (codes "tcount") place (late refl refl refl refl) e) }
 
 good_finalize : IsGood (row (codes "finalize") (LispCell ∷ Wide ∷ []) (λ c id. Does (commands.Finalize c id)))
 unfolding May
-good_finalize = record { says = λ place threads built e c hc id hid. (sound built (hc, narrow id hid) tt, thread_before (codes "finalize") place (late refl refl refl refl) e) }
+good_finalize = record { says = λ place threads built e c hc id hid. (sound built (hc, narrow id hid), thread_before (codes "finalize") place (late refl refl refl refl) e) }
 
 good_cancel : IsGood (row (codes "cancel") (LispCell ∷ []) (λ c. Does (commands.Cancel c)))
 unfolding May
-good_cancel = record { says = λ place threads built e c hc. (sound built (hc) tt, thread_before (codes "cancel") place (late refl refl refl refl) e) }
+good_cancel = record { says = λ place threads built e c hc. (sound built (hc), thread_before (codes "cancel") place (late refl refl refl refl) e) }
 
 good_runfin : IsGood (row (codes "runfin") [] (Does commands.RunFinalizers))
 unfolding May
-good_runfin = record { says = λ place threads built e. (sound built tt tt, thread_before (codes "runfin") place (late refl refl refl refl) e) }
+good_runfin = record { says = λ place threads built e. (sound built tt, thread_before (codes "runfin") place (late refl refl refl refl) e) }
 
-good_gc : IsGood (row (codes "gc") (Number (at_most 0) ∷ []) (λ g. Does (commands.Collect g)))
+good_gc : IsGood (row (codes "gc") (Number (at_most 5) ∷ []) (λ g. Does (commands.Collect g)))
 unfolding May
-good_gc = record { says = λ place threads built e g hg. (sound built (none_most g hg) (none g hg), thread_before (codes "gc") place (late refl refl refl refl) e) }
+good_gc = record { says = λ place threads built e g hg. (sound built (leb-true _ _ hg), thread_before (codes "gc") place (late refl refl refl refl) e) }
 
 good_nogc : IsGood (row (codes "nogc") [] (Does commands.Inhibit))
 unfolding May
-good_nogc = record { says = λ place threads built e. (sound built tt tt, thread_before (codes "nogc") place (late refl refl refl refl) e) }
+good_nogc = record { says = λ place threads built e. (sound built tt, thread_before (codes "nogc") place (late refl refl refl refl) e) }
 
 good_gcok : IsGood (row (codes "gcok") [] (Does commands.Allow))
 unfolding May
-good_gcok = record { says = λ place threads built e. (sound built tt tt, thread_before (codes "gcok") place (late refl refl refl refl) e) }
+good_gcok = record { says = λ place threads built e. (sound built tt, thread_before (codes "gcok") place (late refl refl refl refl) e) }
 
 good_page : IsGood (row (codes "page") (Wide ∷ []) (λ p. Does (commands.ShowPage p)))
 unfolding May
-good_page = record { says = λ place threads built e p hp. (sound built (narrow p hp) tt, thread_before (codes "page") place (late refl refl refl refl) e) }
+good_page = record { says = λ place threads built e p hp. (sound built (narrow p hp), thread_before (codes "page") place (late refl refl refl refl) e) }
 
 good_stat : IsGood (row (codes "stat") (Number (at_most 6) ∷ []) (λ g. Does (commands.Stat g)))
 unfolding May
-good_stat = record { says = λ place threads built e g hg. (sound built (leb-true _ _ hg) tt, thread_before (codes "stat") place (late refl refl refl refl) e) }
+good_stat = record { says = λ place threads built e g hg. (sound built (leb-true _ _ hg), thread_before (codes "stat") place (late refl refl refl refl) e) }
 
 abbrev AreGood : List Row → Type 0
 AreGood [] = Unit {0}
@@ -448,10 +452,9 @@ Placed _ p = (1 ≤ p.pages) × (p.pages ≤ 1024) × (1 ≤ length p.threads)
 
 pub record Good (place : Place) (p : Program) : Type 0 where
   pub placed : Placed place p
-  auto : p.auto ≡ 0
+  auto : IsAuto p.auto
   threads_most : length p.threads ≤ 8
   commands : All (All IsCommand) p.threads
-  youngest : All (All NamesYoungest) p.threads
   commands_most : sum_by length p.threads ≤ 20000
   gcs_most : sum_by (count_by is_gc) p.threads ≤ 64
   schedule : All (λ t. t < length p.threads) p.schedule
@@ -461,10 +464,9 @@ pub nothing_good : Good AtStart nothing_read.program
 unfolding Placed
 nothing_good = record {
   placed = tt;
-  auto = refl;
+  auto = inl refl;
   threads_most = omega arith;
   commands = All-nil _;
-  youngest = All-nil _;
   commands_most = omega arith;
   gcs_most = omega arith;
   schedule = All-nil _;
@@ -522,9 +524,9 @@ gcs_within : (n : ℕ) (gc : Bool) → n ≤ 64 → (gc ≡ true → n + 1 ≤ 6
 gcs_within n true most h = h refl
 gcs_within n false most h = omega arith
 
-command_good : (place : Place) (p : Program) (c : Command) → Sound c → HasThread place → Good place p → limit_of_command p.threads (is_gc c) ≡ None → Good InThread (with_statement p (Does c))
+command_good : (place : Place) (p : Program) (c : Command) → IsCommand c → HasThread place → Good place p → limit_of_command p.threads (is_gc c) ≡ None → Good InThread (with_statement p (Does c))
 unfolding Placed
-command_good place p c sound h g none =
+command_good place p c command h g none =
     let t = placed_thread place p h g.placed in
     let r = room p.threads (is_gc c) none in
     let len = length-onto_last p.threads c in
@@ -533,8 +535,7 @@ command_good place p c sound h g none =
       placed = (t.0, t.1, omega (arith, len, t.2));
       auto = g.auto;
       threads_most = omega (arith, len, g.threads_most);
-      commands = All-onto_last IsCommand p.threads c sound.command g.commands;
-      youngest = All-onto_last NamesYoungest p.threads c sound.youngest g.youngest;
+      commands = All-onto_last IsCommand p.threads c command g.commands;
       commands_most = omega (arith, commands-onto_last p.threads c some, r.commands);
       gcs_most = let e = gcs-onto_last p.threads c some in let w = gcs_within (sum_by (count_by is_gc) p.threads) (is_gc c) g.gcs_most r.gcs in omega (arith, e, w);
       schedule = All-weaker (λ t. t < length p.threads) (λ t. t < length (onto_last p.threads c)) (λ t lt. omega (arith, len, lt)) p.schedule g.schedule;
@@ -552,7 +553,6 @@ thread_good place p h g none =
       auto = g.auto;
       threads_most = omega (arith, len, most);
       commands = All-push (All IsCommand) p.threads [] g.commands (All-nil IsCommand);
-      youngest = All-push (All NamesYoungest) p.threads [] g.youngest (All-nil NamesYoungest);
       commands_most = omega (arith, sum_by-append (length {A = Command}) p.threads ([] ∷ []), g.commands_most);
       gcs_most = omega (arith, sum_by-append (count_by is_gc) p.threads ([] ∷ []), g.gcs_most);
       schedule = All-weaker (λ t. t < length p.threads) (λ t. t < length (p.threads ++ [] ∷ [])) (λ t lt. omega (arith, len, lt)) p.schedule g.schedule;
@@ -566,7 +566,6 @@ line_good place p Version may g none = record {
   auto = g.auto;
   threads_most = g.threads_most;
   commands = g.commands;
-  youngest = g.youngest;
   commands_most = g.commands_most;
   gcs_most = g.gcs_most;
   schedule = g.schedule;
@@ -577,13 +576,21 @@ line_good place p (HeapOf n) may g none = record {
   auto = g.auto;
   threads_most = g.threads_most;
   commands = g.commands;
-  youngest = g.youngest;
   commands_most = g.commands_most;
   gcs_most = g.gcs_most;
   schedule = g.schedule;
   schedule_most = g.schedule_most;
 }
-line_good place p (AutoOf n) may g none = absurd may
+line_good place p (AutoOf n) may g none = record {
+  placed = placed_heap place p may.1 g.placed;
+  auto = may.0;
+  threads_most = g.threads_most;
+  commands = g.commands;
+  commands_most = g.commands_most;
+  gcs_most = g.gcs_most;
+  schedule = g.schedule;
+  schedule_most = g.schedule_most;
+}
 line_good place p NewThread may g none = thread_good place p may g none
 line_good place p (Does c) may g none = command_good place p c may.0 may.1 g none
 line_good place p (Turns ts) may g none = record {
@@ -591,7 +598,6 @@ line_good place p (Turns ts) may g none = record {
   auto = g.auto;
   threads_most = g.threads_most;
   commands = g.commands;
-  youngest = g.youngest;
   commands_most = g.commands_most;
   gcs_most = g.gcs_most;
   schedule = All-append (λ t. t < length p.threads) p.schedule ts g.schedule may.0;
@@ -602,7 +608,6 @@ line_good place p EndOfScript may g none = record {
   auto = g.auto;
   threads_most = g.threads_most;
   commands = g.commands;
-  youngest = g.youngest;
   commands_most = g.commands_most;
   gcs_most = g.gcs_most;
   schedule = g.schedule;
@@ -663,7 +668,6 @@ finished_valid AfterEnd p q number g e =
       threads_least = g.placed.2;
       threads_most = g.threads_most;
       commands = g.commands;
-      gcs = g.youngest;
       commands_most = g.commands_most;
       gcs_most = g.gcs_most;
       schedule = g.schedule;

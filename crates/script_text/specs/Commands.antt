@@ -6,7 +6,7 @@ use Rattle.heap_terms.specs.declared.commands.Command.{Command}
 use Rattle.heap_terms.specs.declared.commands.Command.TheVariants as commands
 use Rattle.heap_terms.specs.declared.faults.Why.{Why}
 use Rattle.heap_terms.specs.declared.faults.Why.TheVariants.{Fields, Form}
-use Rattle.heap_terms.specs.declared.limits.TheConstants.{MOST_ELEMENTS}
+use Rattle.heap_terms.specs.declared.limits.TheConstants.{MOST_ELEMENTS, OLDEST_COLLECTED, OLDEST_GENERATION}
 use Rattle.heap_terms.specs.Fields.{◌>>=◌, number_of, signed_of, raw_word_of, cell_of, raw_cell_of, ranged, at_most, is_fixnum, is_i64}
 use Rattle.heap_terms.specs.Valid.{is_built}
 use Rattle.heap_terms.specs.Grammar.{Statement, Does, statement_of}
@@ -44,8 +44,8 @@ a_signed field = ranged is_i64 (signed_of field)
 abbrev pub a_wide : List ℕ → Result ℕ Why
 a_wide field = ranged (at_most 4294967295) (number_of field)
 
-abbrev pub a_generation : List ℕ → Result ℕ Why
-a_generation field = ranged (at_most 0) (number_of field)
+abbrev pub a_generation : ℕ → List ℕ → Result ℕ Why
+a_generation oldest field = ranged (at_most oldest) (number_of field)
 
 abbrev pub a_raw_cell : List ℕ → Result Raw Why
 a_raw_cell field = ok_or (raw_cell_of field) Form
@@ -80,8 +80,9 @@ front_command names.Raw fs = in_first a_raw_cell fs >>= λ r. in_first a_raw_wor
 front_command names.Add fs = in_first a_raw_cell fs >>= λ r. in_first a_signed (but_first fs) >>= λ k. Ok (commands.AddRaw r k)
 front_command names.Pin fs = in_first a_cell fs >>= λ c. Ok (commands.Pin c)
 front_command names.Unpin fs = Ok commands.Unpin
-front_command names.Gc fs = in_first a_generation fs >>= λ g. Ok (commands.Collect g)
+front_command names.Gc fs = in_first (a_generation OLDEST_COLLECTED) fs >>= λ g. Ok (commands.Collect g)
 front_command names.Page fs = in_first a_wide fs >>= λ p. Ok (commands.ShowPage p)
+front_command names.Stat fs = in_first (a_generation OLDEST_GENERATION) fs >>= λ g. Ok (commands.Stat g)
 front_command names.Nogc fs = Ok commands.Inhibit
 front_command names.Gcok fs = Ok commands.Allow
 
@@ -108,6 +109,7 @@ field_count names.Pin = 1
 field_count names.Unpin = 0
 field_count names.Gc = 1
 field_count names.Page = 1
+field_count names.Stat = 1
 field_count names.Nogc = 0
 field_count names.Gcok = 0
 

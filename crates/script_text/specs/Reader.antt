@@ -7,7 +7,7 @@ use Rattle.script_text.specs.declared.reader.Reader.TheInside.{Inside}
 use Rattle.script_text.specs.Words.{place_of}
 
 abbrev pub view_of : Inside → SoFar
-view_of r = record { place = place_of r.place; program = record { pages = r.pages; auto = 0; threads = r.threads.items; schedule = r.schedule.items } }
+view_of r = record { place = place_of r.place; program = record { pages = r.pages; auto = r.auto; threads = r.threads.items; schedule = r.schedule.items } }
 
 -- the counts are those of the threads, and no limit is passed
 pub record Counts (r : Inside) : Type 0 where

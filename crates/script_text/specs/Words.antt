@@ -1,6 +1,6 @@
 -- The words that the reader knows, and the places that it tells apart, as the definition of reading has them.
 use Rattle.std.specs.Prelude.{ℕ, List, codes}
-use Rattle.heap_terms.specs.ScriptReading.{Place as DefinedPlace, AtStart, AfterVersion, AfterHeap, InThread, InSchedule, AfterEnd}
+use Rattle.heap_terms.specs.ScriptReading.{Place as DefinedPlace, AtStart, AfterVersion, AfterHeap, AfterAuto, InThread, InSchedule, AfterEnd}
 use Rattle.script_text.specs.declared.words.Keyword.{Keyword}
 use Rattle.script_text.specs.declared.words.Keyword.TheVariants as keywords
 use Rattle.script_text.specs.declared.words.Name.{Name}
@@ -31,12 +31,14 @@ text_of_name names.Pin = codes "pin"
 text_of_name names.Unpin = codes "unpin"
 text_of_name names.Gc = codes "gc"
 text_of_name names.Page = codes "page"
+text_of_name names.Stat = codes "stat"
 text_of_name names.Nogc = codes "nogc"
 text_of_name names.Gcok = codes "gcok"
 
 abbrev pub text_of : Keyword → List ℕ
 text_of keywords.Lispheap = codes "lispheap"
 text_of keywords.Heap = codes "heap"
+text_of keywords.Auto = codes "auto"
 text_of keywords.Thread = codes "thread"
 text_of keywords.Schedule = codes "schedule"
 text_of keywords.End = codes "end"
@@ -46,6 +48,7 @@ abbrev pub place_of : Place → DefinedPlace
 place_of places.Start = AtStart
 place_of places.Version = AfterVersion
 place_of places.Heap = AfterHeap
+place_of places.Auto = AfterAuto
 place_of places.Thread = InThread
 place_of places.Schedule = InSchedule
 place_of places.End = AfterEnd

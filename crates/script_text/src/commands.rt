@@ -1,16 +1,16 @@
 //! What the fields of a line say, behind its word.
 
 ghost use Rattle.std.specs.Prelude.{◌≡◌, ℕ, ◌-◌, ◌^◌, [], OnOk, IfOk, IfErr, IfSome, Ok, Err, drop, min, codes};
-ghost use Rattle.heap_terms.specs.Grammar.{Version, HeapOf, statement_of};
+ghost use Rattle.heap_terms.specs.Grammar.{Version, HeapOf, AutoOf, statement_of};
 ghost use Rattle.script_text.specs.Commands.{front_command, field_count, does, IsFront, SaysCommand};
 ghost use Rattle.script_text.specs.Left.{fields_left, lines_after};
 ghost use Rattle.script_text.specs.Words.{text_of_name};
 
 use crate::cells::{plain_cell, plain_raw_cell};
 use crate::cursor::Cursor;
-use crate::numbers::{page_count, plain_fixnum, plain_index, plain_signed, version};
+use crate::numbers::{auto_words, page_count, plain_fixnum, plain_index, plain_signed, version};
 use crate::words::{Name, plain_name};
-use heap_terms::{Command, Why};
+use heap_terms::{Command, OLDEST_COLLECTED, OLDEST_GENERATION, Why};
 
 impl Name {
     /// How many fields the command has after its word.
@@ -19,7 +19,7 @@ impl Name {
     {
         match self {
             Name::Unpin | Name::Nogc | Name::Gcok => 0,
-            Name::Nil | Name::Show | Name::Pin | Name::Gc | Name::Page => 1,
+            Name::Nil | Name::Show | Name::Pin | Name::Gc | Name::Page | Name::Stat => 1,
             Name::Fix
             | Name::Move
             | Name::Vector
@@ -53,6 +53,16 @@ pub(crate) fn pages_of(left: &mut Cursor) -> Result<u64, Why>
 {
     let field = left.only_field()?;
     page_count(field)
+}
+
+/// The words of an `auto` line.
+pub(crate) fn auto_of(left: &mut Cursor) -> Result<u64, Why>
+    ensures good { IfOk result (λ words. (threads : ℕ) → statement_of threads (codes "auto") (fields_left left.old) ≡ Ok (AutoOf words)) }
+    ensures bad { IfErr result (λ why. (threads : ℕ) → statement_of threads (codes "auto") (fields_left left.old) ≡ Err why) }
+    ensures lines { OnOk result (lines_after left.new ≡ lines_after left.old) }
+{
+    let field = left.only_field()?;
+    auto_words(field)
 }
 
 /// The command of the fields at the front, whatever follows them.
@@ -157,12 +167,16 @@ fn front(name: Name, left: &mut Cursor) -> Result<Command, Why>
         }
         Name::Unpin => Ok(Command::Unpin),
         Name::Gc => {
-            let g = left.generation()?;
+            let g = left.generation(OLDEST_COLLECTED)?;
             Ok(Command::Collect { g })
         }
         Name::Page => {
             let p = left.wide()?;
             Ok(Command::ShowPage { p })
+        }
+        Name::Stat => {
+            let g = left.generation(OLDEST_GENERATION)?;
+            Ok(Command::Stat { g })
         }
         Name::Nogc => Ok(Command::Inhibit),
         Name::Gcok => Ok(Command::Allow),
@@ -375,6 +389,7 @@ fn plain_front(name: Name, rest: &[u8]) -> Option<(Command, &[u8])>
         | Name::Unpin
         | Name::Gc
         | Name::Page
+        | Name::Stat
         | Name::Nogc
         | Name::Gcok => None,
     }

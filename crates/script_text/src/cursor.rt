@@ -156,13 +156,13 @@ impl<'a> Cursor<'a> {
         number_up_to(field, u32::MAX)
     }
 
-    /// A generation that `gc` may name: until promotion is built the youngest alone.
-    pub(crate) fn generation(&mut self) -> Result<u8, Why>
-        ensures value { result ≡ in_first a_generation (fields_left self.old) }
+    /// A generation up to `oldest`.
+    pub(crate) fn generation(&mut self, oldest: u8) -> Result<u8, Why>
+        ensures value { result ≡ in_first (a_generation oldest) (fields_left self.old) }
         ensures moved { OnOk result (Moved self.old self.new) }
     {
         let field = self.field()?;
-        let generation = number_up_to(field, 0)?;
+        let generation = number_up_to(field, u32::from(oldest))?;
         Ok(generation as u8)
     }
 

@@ -5,12 +5,12 @@ ghost use Rattle.std.specs.Prelude.{◌≡◌, ◌-◌, ◌^◌, ◌≤◌, min,
 ghost use Rattle.std.specs.Char.{is_digit};
 ghost use Rattle.std.specs.List.{list_all};
 ghost use Rattle.std.specs.Str.Parse.{digits_value};
-ghost use Rattle.heap_terms.specs.Fields.{number_of, ranged, between, at_most, is_fixnum, is_i64, signed_of};
+ghost use Rattle.heap_terms.specs.Fields.{number_of, ranged, between, at_most, is_auto, is_fixnum, is_i64, signed_of};
 ghost use Rattle.script_text.specs.Commands.{Reads, an_index, a_fixnum, a_signed};
 ghost use Rattle.script_text.specs.Values.{pages_of, NumberAt};
 
 use crate::fields::ends_plainly;
-use heap_terms::{MOST_ELEMENTS, Why};
+use heap_terms::{LEAST_AUTO, MOST_AUTO, MOST_ELEMENTS, Why};
 
 /// The value of decimal digits; one above `u64::MAX` is given as `u64::MAX`.
 fn value_of_digits(digits: &[u8]) -> Option<u64>
@@ -73,6 +73,22 @@ pub(crate) fn page_count(field: &[u8]) -> Result<u64, Why>
     match number(field) {
         None => Err(Why::Form),
         Some(n) => { if n >= 1 { Ok(n) } else { Err(Why::Range) } }
+    }
+}
+
+/// The words between two collections that `auto` asks for, or 0 where it asks for none.
+pub(crate) fn auto_words(field: &[u8]) -> Result<u64, Why>
+    ensures { result ≡ ranged is_auto (number_of field.now) }
+{
+    match number(field) {
+        None => Err(Why::Form),
+        Some(n) => {
+            if n == 0 || (u64::from(LEAST_AUTO) <= n && n <= u64::from(MOST_AUTO)) {
+                Ok(n)
+            } else {
+                Err(Why::Range)
+            }
+        }
     }
 }
 

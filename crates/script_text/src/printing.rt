@@ -25,6 +25,10 @@ pub fn print(alloc: Global, program: &Program) -> Result<Vec<u8>, Memory>
     out.reserve(NUMBER_FIELD + 1)?;
     push_number_field(&mut out, program.pages as u64);
     push(&mut out, b"\n");
+    out.append(b"auto".as_slice())?;
+    out.reserve(NUMBER_FIELD + 1)?;
+    push_number_field(&mut out, program.auto);
+    push(&mut out, b"\n");
     push_threads(&mut out, program.threads.as_slice())?;
     push_schedule(&mut out, program.schedule.as_slice())?;
     out.append(b"end\n".as_slice())?;

@@ -9,7 +9,7 @@ ghost use Rattle.script_text.specs.ReaderAnswers.{IsJudged};
 ghost use Rattle.script_text.specs.Left.{fields_left, lines_after};
 ghost use Rattle.script_text.specs.Words.{text_of};
 
-use crate::commands::{command, pages_of, version_of};
+use crate::commands::{auto_of, command, pages_of, version_of};
 use crate::cursor::Cursor;
 use crate::faults::LineFault;
 use crate::schedules::add_turns;
@@ -30,6 +30,7 @@ const SHORT_LINE: usize = 8;
 pub(crate) struct Reader {
     place: Place,
     pages: u32,
+    auto: u64,
     threads: Vec<Commands>,
     schedule: Vec<u32>,
     commands: u32,
@@ -73,6 +74,7 @@ impl Reader {
         Reader {
             place: Place::Start,
             pages: 0,
+            auto: 0,
             threads: Vec::new(alloc),
             schedule: Vec::new(alloc),
             commands: 0,
@@ -168,6 +170,11 @@ impl Reader {
                 let pages = pages_of(left)?;
                 self.heap(pages)
             }
+            Keyword::Auto => {
+                self.auto = auto_of(left)?;
+                self.place = Place::Auto;
+                Ok(())
+            }
             Keyword::Thread => {
                 if !left.is_at_end() {
                     return Err(LineFault::Bad(Why::Fields));
@@ -239,7 +246,7 @@ impl Reader {
         match self.place {
             Place::End => Some(Program {
                 pages: self.pages,
-                auto: 0,
+                auto: self.auto,
                 threads: Scripts::from_vec(self.threads),
                 schedule: Turns::from_vec(self.schedule),
             }),

@@ -74,6 +74,31 @@ fn whole_scripts(rt: HostRuntime) {
             "lispheap 1\nheap 1024\nshow s0",
             ScriptFault::Line(3, Why::Order),
         ),
+        ("lispheap 1\nauto 0", ScriptFault::Line(2, Why::Order)),
+        (
+            "lispheap 1\nheap 2\nauto",
+            ScriptFault::Line(3, Why::Fields),
+        ),
+        (
+            "lispheap 1\nheap 2\nauto -1",
+            ScriptFault::Line(3, Why::Form),
+        ),
+        (
+            "lispheap 1\nheap 2\nauto 511",
+            ScriptFault::Line(3, Why::Range),
+        ),
+        (
+            "lispheap 1\nheap 2\nauto 524289",
+            ScriptFault::Line(3, Why::Range),
+        ),
+        (
+            "lispheap 1\nheap 2\nauto 0\nauto 0",
+            ScriptFault::Line(4, Why::Order),
+        ),
+        (
+            "lispheap 1\nheap 2\nauto 512\nend",
+            ScriptFault::Line(4, Why::Order),
+        ),
         (
             "\n;c\n \t\r\nlispheap 1\nheap 0",
             ScriptFault::Line(5, Why::Range),
@@ -95,6 +120,7 @@ fn lines_after_the_head(rt: HostRuntime) -> Result<(), Fail> {
         ("end\r ", Why::Word),
         ("lispheap 1", Why::Order),
         ("heap x y", Why::Order),
+        ("auto 0", Why::Order),
         ("thread x", Why::Fields),
         ("end now", Why::Fields),
         ("show", Why::Fields),
@@ -135,6 +161,8 @@ fn lines_after_the_head(rt: HostRuntime) -> Result<(), Fail> {
         ("get s0 s1 65536", Why::Range),
         ("put s0 65536 x", Why::Range),
         ("get s0 s1 18446744073709551616", Why::Range),
+        ("gc 6", Why::Range),
+        ("stat 7", Why::Range),
         ("schedule 1", Why::Range),
         ("schedule 0*0", Why::Range),
         ("schedule 0*65536", Why::Range),
@@ -201,6 +229,19 @@ fn limits(rt: HostRuntime) -> Result<(), Fail> {
             "show s16",
             Some(ScriptFault::Line(20_004, Why::Form)),
         ),
+        ("gc 5\n", 64, "stat 6\nend", None),
+        (
+            "gc 0\n",
+            64,
+            "gc 5",
+            Some(ScriptFault::Limit(68, LimitKind::Gcs)),
+        ),
+        (
+            "gc 0\n",
+            64,
+            "gc 6",
+            Some(ScriptFault::Line(68, Why::Range)),
+        ),
         ("schedule 0*65535\n", 15, "schedule 0*16975\nend", None),
         (
             "schedule 0*65535\n",
@@ -240,12 +281,12 @@ fn limits(rt: HostRuntime) -> Result<(), Fail> {
 #[test]
 fn a_script_is_read_as_its_program(rt: HostRuntime) -> Result<(), Fail> {
     let text =
-        b"; a script\r\nlispheap 1\nheap 1024\nthread\n\tfix s0 4611686018427387903 \nfix g15 -4611686018427387904\r\n\nfix b9 -0\nthread\ncons b10 s15 g1\nget s1 b2 65535\nput b0 0 s3\nshow g7\nschedule 1 0*3\nschedule 01\nend";
+        b"; a script\r\nlispheap 1\nheap 1024\nauto 524288\nthread\n\tfix s0 4611686018427387903 \nfix g15 -4611686018427387904\r\n\nfix b9 -0\nthread\ncons b10 s15 g1\nget s1 b2 65535\nput b0 0 s3\nshow g7\nschedule 1 0*3\nschedule 01\nend";
     let program = parse(rt.alloc(), text.as_slice())
         .ok()
         .ok_or("the text is a script")?;
     assert_eq!(rt; program.pages, 1024);
-    assert_eq!(rt; program.auto, 0);
+    assert_eq!(rt; program.auto, 524_288);
     assert_eq!(rt; program.schedule.as_slice(), [1, 0, 0, 0, 1].as_slice());
     let first = [
         Command::Fix {
@@ -288,6 +329,31 @@ fn a_script_is_read_as_its_program(rt: HostRuntime) -> Result<(), Fail> {
 }
 
 #[test]
+fn gc_and_stat_name_generations(rt: HostRuntime) -> Result<(), Fail> {
+    let text = b"lispheap 1\nheap 1\nauto 512\nthread\ngc 0\ngc 05\nstat 6\nend\n";
+    let program = parse(rt.alloc(), text.as_slice())
+        .ok()
+        .ok_or("the text is a script")?;
+    assert_eq!(rt; program.auto, 512);
+    let wanted = [
+        Command::Collect { g: 0 },
+        Command::Collect { g: 5 },
+        Command::Stat { g: 6 },
+    ];
+    for commands in program.threads.as_slice() {
+        assert_eq!(rt; commands.as_slice(), wanted.as_slice());
+    }
+    let printed = print(rt.alloc(), &program)
+        .ok()
+        .ok_or("there is memory for it")?;
+    assert_eq!(rt;
+        printed.as_slice(),
+        b"lispheap 1\nheap 1\nauto 512\nthread\ngc 0\ngc 5\nstat 6\nend\n".as_slice()
+    );
+    Ok(())
+}
+
+#[test]
 fn a_script_is_printed_in_its_usual_spelling(rt: HostRuntime) -> Result<(), Fail> {
     let text =
         b"; a script\r\nlispheap 01\nheap  1024\nthread\n\tfix s0 -0 \nthread\ncons b10 s15 g1\nschedule 1 0*3\nschedule 00 1*65535 1\nend";
@@ -299,7 +365,7 @@ fn a_script_is_printed_in_its_usual_spelling(rt: HostRuntime) -> Result<(), Fail
         .ok_or("there is memory for it")?;
     assert_eq!(rt;
         printed.as_slice(),
-        b"lispheap 1\nheap 1024\nthread\nfix s0 0\nthread\ncons b10 s15 g1\nschedule 1 0*4 1*65535 1\nend\n".as_slice()
+        b"lispheap 1\nheap 1024\nauto 0\nthread\nfix s0 0\nthread\ncons b10 s15 g1\nschedule 1 0*4 1*65535 1\nend\n".as_slice()
     );
     Ok(())
 }

@@ -31,6 +31,7 @@ pub(crate) enum Name {
     Unpin,
     Gc,
     Page,
+    Stat,
     Nogc,
     Gcok,
 }
@@ -40,6 +41,7 @@ pub(crate) enum Name {
 pub(crate) enum Keyword {
     Lispheap,
     Heap,
+    Auto,
     Thread,
     Schedule,
     End,
@@ -69,6 +71,7 @@ pub(crate) fn meaning_of(word: &[u8]) -> Option<Keyword>
         b"raw" => Some(Keyword::Command(Name::Raw)),
         b"add" => Some(Keyword::Command(Name::Add)),
         b"page" => Some(Keyword::Command(Name::Page)),
+        b"stat" => Some(Keyword::Command(Name::Stat)),
         b"pin" => Some(Keyword::Command(Name::Pin)),
         b"unpin" => Some(Keyword::Command(Name::Unpin)),
         b"gc" => Some(Keyword::Command(Name::Gc)),
@@ -78,6 +81,7 @@ pub(crate) fn meaning_of(word: &[u8]) -> Option<Keyword>
         b"thread" => Some(Keyword::Thread),
         b"end" => Some(Keyword::End),
         b"heap" => Some(Keyword::Heap),
+        b"auto" => Some(Keyword::Auto),
         b"lispheap" => Some(Keyword::Lispheap),
         _ => None,
     }
@@ -166,6 +170,7 @@ pub(crate) enum Place {
     Start,
     Version,
     Heap,
+    Auto,
     Thread,
     Schedule,
     End,
@@ -179,8 +184,9 @@ impl Place {
         match self {
             Place::Start => matches!(word, Keyword::Lispheap),
             Place::Version => matches!(word, Keyword::Heap),
-            Place::Heap => matches!(word, Keyword::Thread),
-            Place::Thread => !matches!(word, Keyword::Lispheap | Keyword::Heap),
+            Place::Heap => matches!(word, Keyword::Auto | Keyword::Thread),
+            Place::Auto => matches!(word, Keyword::Thread),
+            Place::Thread => !matches!(word, Keyword::Lispheap | Keyword::Heap | Keyword::Auto),
             Place::Schedule => matches!(word, Keyword::Schedule | Keyword::End),
             Place::End => false,
         }

@@ -1,5 +1,5 @@
 -- What an event changes of a thread beside its cells: how far it is, its regions, what it owes, and whether it has ended.
-use Rattle.std.proofs.Common.{◌≡◌, ◌≢◌, ℕ, ◌+◌, ◌<◌, ◌≤◌, List, length, Option, Some, None, Bool, true, false, inl, inr, refl, sym, ◌∙◌, set, arith}
+use Rattle.std.proofs.Common.{◌≡◌, ◌≢◌, ℕ, ◌+◌, ◌<◌, ◌≤◌, List, length, Option, Some, None, Bool, true, false, inl, inr, refl, ◌∙◌, set, arith}
 use Rattle.std.proofs.lemmas.List.{length-set}
 use Rattle.std.specs.Prelude.{if◌then◌else◌, ◌==◌}
 use Rattle.heap_terms.specs.declared.cells.Cell.{Cell}
@@ -18,7 +18,6 @@ use Rattle.heap_terms.specs.Objects.{Object}
 use Rattle.heap_terms.specs.Outcomes.{outcome_of}
 use Rattle.heap_terms.specs.Valid.{IsInRange, is_gc}
 use Rattle.heap_terms.specs.WellFormed.{IsWellFormed}
-use Rattle.heap_laws.proofs.Events.Causes.{collects_next}
 use Rattle.heap_laws.proofs.Outcomes.Changes.{by_outcome}
 use Rattle.heap_laws.proofs.WellFormed.Threads.{thread_cases, changed_thread, other_thread}
 

@@ -17,13 +17,8 @@ use Rattle.heap_terms.specs.Heap.{NamedHeap, start}
 use Rattle.heap_terms.specs.Histories.{IsNext, IsAnswer, IsOpening, after, Lawful, LawfulFrom, command_at, wish_at, wished_size, next, thread_of}
 use Rattle.heap_terms.specs.Regions.{Wish, Nothing, Make, wish_of, pages_needed, IsFreeRun, IsLowestRun, HasNoRun}
 use Rattle.heap_terms.specs.Passes.{order_of}
-use Rattle.heap_terms.specs.Valid.{IsValid}
-use Rattle.heap_terms.specs.WellFormed.{IsWellFormed}
 use Rattle.heap_laws.specs.Order.{orders_of}
 use Rattle.pass_laws.proofs.Determined.{passes_determined}
-use Rattle.heap_laws.proofs.Termination.EventsLeft.{collects_is}
-use Rattle.heap_laws.proofs.WellFormed.Replayed.{after-well_formed}
-use Rattle.heap_laws.proofs.WellFormed.Threads.{start-well_formed}
 
 -- the lowest run begins at one page
 pub lowest_same : (pages : List Entry) (first other k : ℕ) → IsLowestRun pages first k → IsLowestRun pages other k → first ≡ other

@@ -1,5 +1,5 @@
 -- A thread inhibits collections no more often than it has done commands.
-use Rattle.std.proofs.Common.{◌≡◌, ◌≢◌, ℕ, ◌+◌, ◌≤◌, ◌<◌, List, length, inl, inr, refl, sym, ◌∙◌, subst, ap, arith, set}
+use Rattle.std.proofs.Common.{◌≡◌, ◌≢◌, ℕ, ◌+◌, ◌≤◌, ◌<◌, List, length, inl, inr, ◌∙◌, ap, arith}
 use Rattle.std.proofs.lemmas.Bool.{cases_eq}
 use Rattle.heap_terms.specs.declared.events.Event.{Event}
 use Rattle.heap_terms.specs.declared.events.PassRecord.{PassRecord}
@@ -14,7 +14,7 @@ use Rattle.heap_terms.specs.Valid.{IsValid}
 use Rattle.heap_terms.specs.WellFormed.{IsWellFormed}
 use Rattle.heap_laws.proofs.Events.Appending.{kept_by_events}
 use Rattle.heap_laws.proofs.Events.Causes.{by_events, alive_thread}
-use Rattle.heap_laws.proofs.Events.CollectedThreads.{closed_at, collected_threads}
+use Rattle.heap_laws.proofs.Events.CollectedThreads.{collected_threads}
 use Rattle.heap_laws.proofs.Events.OwnThread.{built_heap}
 use Rattle.heap_laws.proofs.Events.Tasks.{outcome-board}
 use Rattle.heap_laws.proofs.Programs.BuiltCommands.{script_thread, script_command}

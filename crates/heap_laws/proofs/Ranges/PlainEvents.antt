@@ -9,7 +9,7 @@ use Rattle.heap_terms.specs.declared.answers.Answer.TheVariants as answers
 use Rattle.heap_terms.specs.declared.cells.Value.{Value}
 use Rattle.heap_terms.specs.declared.cells.Value.TheVariants as values
 use Rattle.heap_terms.specs.declared.commands.Command.{Command}
-use Rattle.heap_terms.specs.declared.commands.Command.TheVariants.{Fix, MakeNil, Move, NewCons, NewVector, NewInstance, NewClosure, NewWords, Get, Put, RawGet, RawPut, Same, Show, Addr, SetRaw, AddRaw, Pin, Unpin, Collect, Inhibit, Allow, ShowPage}
+use Rattle.heap_terms.specs.declared.commands.Command.TheVariants.{Fix, MakeNil, Move, NewCons, NewVector, NewInstance, NewClosure, NewWords, Get, Put, RawGet, RawPut, Same, Show, Addr, SetRaw, AddRaw, Pin, Unpin, Collect, Inhibit, Allow, ShowPage, Stat}
 use Rattle.heap_terms.specs.declared.events.Event.{Event}
 use Rattle.heap_terms.specs.declared.kinds.Kind.{Kind}
 use Rattle.heap_terms.specs.declared.programs.Program.{Program}
@@ -19,6 +19,7 @@ use Rattle.heap_terms.specs.Heap.{NamedHeap, start, thread_at, object_at, zero_v
 use Rattle.heap_terms.specs.Histories.{IsNext, after, advance, Lawful, LawfulFrom, thread_of}
 use Rattle.heap_terms.specs.Layout.{page_words, size_of}
 use Rattle.heap_terms.specs.Objects.{Object, Contents, WordsOf, kind_of, payload_of}
+use Rattle.heap_laws.specs.Numbers.{HasNumbers, most_passes}
 use Rattle.heap_laws.specs.Plain.{IsPlainValue, IsPlainAnswer, IsPlain}
 use Rattle.heap_terms.specs.Outcome.{Outcome, done, answering}
 use Rattle.heap_terms.specs.Outcomes.{outcome_of}
@@ -32,7 +33,8 @@ use Rattle.heap_terms.specs.WellFormed.{IsWellFormed, IsLiving, HoldsLiving, IsS
 use Rattle.heap_laws.proofs.WellFormed.Committed.{new_object}
 use Rattle.pass_laws.proofs.Ranges.{collection_plain}
 use Rattle.heap_laws.proofs.Ranges.PlainPages.{view_plain}
-use Rattle.heap_laws.proofs.Ranges.ObjectCount.{IsCounted, after-counted, start-counted, counted_few, event_thread}
+use Rattle.heap_laws.proofs.Ranges.ObjectCount.{IsCounted, after-counted, counted_few, event_thread}
+use Rattle.heap_laws.proofs.Ranges.PolicyNumbers.{HasFewSums, start-few, after-few, numbers-few}
 use Rattle.heap_laws.proofs.Outcomes.Parts.{by_test, needing_cases, indexing_cases, fields_refer, raws_refer}
 use Rattle.heap_laws.proofs.Outcomes.WordBounds.{word_below, word_plus-below}
 use Rattle.heap_laws.proofs.Events.Causes.{by_events}
@@ -56,45 +58,50 @@ living_plain objects values.Unbound few h = h
 living_plain objects (values.Ref name) few h = let l = name_below objects name h in omega arith
 
 pub answer_plain : (p : Program) (a : NamedHeap) (t : ℕ) (c : Command) → IsWellFormed p a → t < length p.threads → length a.objects ≤ MOST_COMMANDS →
-    p.pages ≤ MOST_PAGES → IsBuilt c → IsInRange c → IsPlainAnswer (outcome_of a t c).answer
+    HasNumbers a most_passes → p.pages ≤ MOST_PAGES → IsBuilt c → IsInRange c → IsPlainAnswer (outcome_of a t c).answer
 unfolding outcome_of
-answer_plain p a t (Fix d n) w l few pages built r = tt
-answer_plain p a t (MakeNil d) w l few pages built r = tt
-answer_plain p a t (Move d c) w l few pages built r = tt
-answer_plain p a t (NewCons d x y) w l few pages built r = tt
-answer_plain p a t (NewVector d n) w l few pages built r = tt
-answer_plain p a t (NewInstance d n) w l few pages built r = tt
-answer_plain p a t (NewClosure d n) w l few pages built r = tt
-answer_plain p a t (NewWords d n v) w l few pages built r = tt
-answer_plain p a t (Get d x i) w l few pages built r = needing_cases (λ (o : Outcome). IsPlainAnswer o.answer) (fields_at a.objects (cell_value a t x)) a _ tt (λ vs e.
+answer_plain p a t (Fix d n) w l few numbers pages built r = tt
+answer_plain p a t (MakeNil d) w l few numbers pages built r = tt
+answer_plain p a t (Move d c) w l few numbers pages built r = tt
+answer_plain p a t (NewCons d x y) w l few numbers pages built r = tt
+answer_plain p a t (NewVector d n) w l few numbers pages built r = tt
+answer_plain p a t (NewInstance d n) w l few numbers pages built r = tt
+answer_plain p a t (NewClosure d n) w l few numbers pages built r = tt
+answer_plain p a t (NewWords d n v) w l few numbers pages built r = tt
+answer_plain p a t (Get d x i) w l few numbers pages built r = needing_cases (λ (o : Outcome). IsPlainAnswer o.answer) (fields_at a.objects (cell_value a t x)) a _ tt (λ vs e.
     indexing_cases (λ (o : Outcome). IsPlainAnswer o.answer) vs i zero_value a (λ v. answering (answers.Val v) (with_cell a t d v)) tt (λ below.
     let f = fields_refer a.objects (cell_value a t x) vs e in
     let holds : HoldsLiving a.objects f.0 = subst (λ (k : Contents). HoldsLiving a.objects k) f.1.holds (w.sound.objects f.1.name f.1.object f.1.there).contents in
     living_plain a.objects (slice_index_or vs i zero_value) few (fields_living a.objects f.0 vs f.2 holds i)))
-answer_plain p a t (Put x i b) w l few pages built r = needing_cases (λ (o : Outcome). IsPlainAnswer o.answer) (fields_at a.objects (cell_value a t x)) a _ tt (λ vs e.
+answer_plain p a t (Put x i b) w l few numbers pages built r = needing_cases (λ (o : Outcome). IsPlainAnswer o.answer) (fields_at a.objects (cell_value a t x)) a _ tt (λ vs e.
     indexing_cases (λ (o : Outcome). IsPlainAnswer o.answer) vs i zero_value a
     (λ _. done (record a { objects = with_field_at a.objects (cell_value a t x) i (cell_value a t b) })) tt (λ below. tt))
-answer_plain p a t (RawGet d x i) w l few pages built r = needing_cases (λ (o : Outcome). IsPlainAnswer o.answer) (raws_at a.objects (cell_value a t x)) a _ tt (λ ws e.
+answer_plain p a t (RawGet d x i) w l few numbers pages built r = needing_cases (λ (o : Outcome). IsPlainAnswer o.answer) (raws_at a.objects (cell_value a t x)) a _ tt (λ ws e.
     indexing_cases (λ (o : Outcome). IsPlainAnswer o.answer) ws i 0 a (λ word. taking a t d word) tt (λ below.
     let f = raws_refer a.objects (cell_value a t x) ws e in
     let shape : IsShaped (WordsOf ws) = subst (λ (k : Contents). IsShaped k) f.holds (w.sound.objects f.name f.object f.there).shape in
     shape.1 i))
-answer_plain p a t (RawPut x i b) w l few pages built r = needing_cases (λ (o : Outcome). IsPlainAnswer o.answer) (raws_at a.objects (cell_value a t x)) a _ tt (λ ws e.
+answer_plain p a t (RawPut x i b) w l few numbers pages built r = needing_cases (λ (o : Outcome). IsPlainAnswer o.answer) (raws_at a.objects (cell_value a t x)) a _ tt (λ ws e.
     indexing_cases (λ (o : Outcome). IsPlainAnswer o.answer) ws i 0 a
     (λ _. done (record a { objects = changed_at a.objects (cell_value a t x) (λ k. with_raws k (set ws i (raw_value a t b))) })) tt (λ below. tt))
-answer_plain p a t (Same x y) w l few pages built r = by_test IsPlainAnswer (same_value (cell_value a t x) (cell_value a t y)) answers.Yes answers.No (λ e. tt) (λ e. tt)
-answer_plain p a t (Show x) w l few pages built r = living_plain a.objects (cell_value a t x) few (cell_living p a t x w l)
-answer_plain p a t (Addr d x) w l few pages built r = word_below a (cell_value a t x) w.sound (omega (arith, w.pages_length, pages)) (cell_living p a t x w l)
-answer_plain p a t (SetRaw d v) w l few pages built r = tt
-answer_plain p a t (AddRaw d k) w l few pages built r = word_plus-below (raw_value a t d) k
-answer_plain p a t (Pin x) w l few pages built r = by_test (λ (o : Outcome). IsPlainAnswer o.answer) (nat_lt (length (thread_at a t).pins) MOST_PINS) _ _ (λ e. tt) (λ e. tt)
-answer_plain p a t Unpin w l few pages built r = by_test (λ (o : Outcome). IsPlainAnswer o.answer) (length (thread_at a t).pins == 0) _ _ (λ e. tt) (λ e. tt)
-answer_plain p a t (Collect g) w l few pages built r = tt
-answer_plain p a t Inhibit w l few pages built r = tt
-answer_plain p a t Allow w l few pages built r = by_test (λ (o : Outcome). IsPlainAnswer o.answer) ((thread_at a t).inhibits == 0) _ _ (λ e. tt) (λ e. tt)
-answer_plain p a t (ShowPage q) w l few pages built r = by_test (λ (o : Outcome). IsPlainAnswer o.answer) (nat_lt q (length a.pages)) _ _
+answer_plain p a t (Same x y) w l few numbers pages built r = by_test IsPlainAnswer (same_value (cell_value a t x) (cell_value a t y)) answers.Yes answers.No (λ e. tt) (λ e. tt)
+answer_plain p a t (Show x) w l few numbers pages built r = living_plain a.objects (cell_value a t x) few (cell_living p a t x w l)
+answer_plain p a t (Addr d x) w l few numbers pages built r = word_below a (cell_value a t x) w.sound (omega (arith, w.pages_length, pages)) (cell_living p a t x w l)
+answer_plain p a t (SetRaw d v) w l few numbers pages built r = tt
+answer_plain p a t (AddRaw d k) w l few numbers pages built r = word_plus-below (raw_value a t d) k
+answer_plain p a t (Pin x) w l few numbers pages built r = by_test (λ (o : Outcome). IsPlainAnswer o.answer) (nat_lt (length (thread_at a t).pins) MOST_PINS) _ _ (λ e. tt) (λ e. tt)
+answer_plain p a t Unpin w l few numbers pages built r = by_test (λ (o : Outcome). IsPlainAnswer o.answer) (length (thread_at a t).pins == 0) _ _ (λ e. tt) (λ e. tt)
+answer_plain p a t (Collect g) w l few numbers pages built r = tt
+answer_plain p a t Inhibit w l few numbers pages built r = tt
+answer_plain p a t Allow w l few numbers pages built r = by_test (λ (o : Outcome). IsPlainAnswer o.answer) ((thread_at a t).inhibits == 0) _ _ (λ e. tt) (λ e. tt)
+answer_plain p a t (ShowPage q) w l few numbers pages built r = by_test (λ (o : Outcome). IsPlainAnswer o.answer) (nat_lt q (length a.pages)) _ _
     (λ e. view_plain p a q w few pages (ltb-true q (length a.pages) e)) (λ e. tt)
-answer_plain p a t _ w l few pages built r = absurd built
+answer_plain p a t (Stat g) w l few numbers pages built r = (
+  (let most = numbers.words g in omega arith),
+  (let most = numbers.cum g in omega arith),
+  (let most = numbers.num g in omega arith),
+)
+answer_plain p a t _ w l few numbers pages built r = absurd built
 
 -- where a new object lies in the heap after its commit
 built_inside : (p : Program) (a b : NamedHeap) (t : ℕ) (c : Command) (kind : Kind) (n : ℕ) → IsWellFormed p b →
@@ -114,10 +121,10 @@ owed_most None last h e = cc
 owed_most (Some g) last h e = let same : g ≡ last = cc in subst (λ (x : ℕ). x ≤ 5) same h
 
 -- each event from a heap that a valid program left
-pub event_plain : (p : Program) (a : NamedHeap) (e : Event) → IsValid p → IsCounted p a → IsNext p a e → IsPlain e
+pub event_plain : (p : Program) (a : NamedHeap) (e : Event) → IsValid p → HasFewSums p a → IsNext p a e → IsPlain e
 event_plain p a e valid h next =
-    let w = h.formed in
-    let few = counted_few p a valid h in
+    let w = h.counted.formed in
+    let few = counted_few p a valid h.counted in
     let threads = valid.threads_most in
     let pages = valid.pages_most in
     let pages_length = w.pages_length in
@@ -125,7 +132,7 @@ event_plain p a e valid h next =
     (λ t c answer d later l. (
       omega arith,
       script_command p t (thread_at a t).done c valid d.command,
-      rw d.answered (answer_plain p a t c w l few pages (script_built p t (thread_at a t).done c valid d.command) (script_command p t (thread_at a t).done c valid d.command).in_range),
+      rw d.answered (answer_plain p a t c w l few (numbers-few p a valid h) pages (script_built p t (thread_at a t).done c valid d.command) (script_command p t (thread_at a t).done c valid d.command).in_range),
     ))
     (λ t c answer d later l. (omega arith, script_command p t (thread_at a t).done c valid d.command, rw d.answered tt))
     (λ t c answer kind n seed d later l. (
@@ -145,15 +152,15 @@ event_plain p a e valid h next =
     (λ t last passes d later l. (omega arith, owed_most (thread_at a t).owed last (w.threads t l).owed d.owes, collection_plain p a last passes w pages few d.collection))
     (λ t d later l. omega arith)
     e next in
-    plain (after-counted p (limited p valid) a e next h) (event_thread p a e (limited p valid) w next)
+    plain (after-counted p (limited p valid) a e next h.counted) (event_thread p a e (limited p valid) w next)
 
-events_plain : (p : Program) (a : NamedHeap) (h : List Event) → IsValid p → IsCounted p a → LawfulFrom p a h → AllByRecursion IsPlain h
-events_plain p a [] valid counted lawful = tt
-events_plain p a (e ∷ es) valid counted lawful = (
-  event_plain p a e valid counted lawful.0,
-  events_plain p (after p a e) es valid (after-counted p (limited p valid) a e lawful.0 counted) lawful.1,
+events_plain : (p : Program) (a : NamedHeap) (h : List Event) → IsValid p → HasFewSums p a → LawfulFrom p a h → AllByRecursion IsPlain h
+events_plain p a [] valid few lawful = tt
+events_plain p a (e ∷ es) valid few lawful = (
+  event_plain p a e valid few lawful.0,
+  events_plain p (after p a e) es valid (after-few p valid a e lawful.0 few) lawful.1,
 )
 
 -- each event of a lawful history of a valid program is plain
 pub history_plain : (p : Program) (h : List Event) → IsValid p → Lawful p h → All IsPlain h
-history_plain p h valid lawful = All-from_recursion IsPlain h (events_plain p (start p) h valid (start-counted p) lawful)
+history_plain p h valid lawful = All-from_recursion IsPlain h (events_plain p (start p) h valid (start-few p valid) lawful)

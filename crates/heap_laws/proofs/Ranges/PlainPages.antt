@@ -1,8 +1,8 @@
 -- The numbers in what a page is shown as.
-use Rattle.std.proofs.Common.{◌≡◌, ℕ, ◌+◌, ◌-◌, ◌*◌, ◌<◌, ◌≤◌, ◌^◌, zero, suc, List, [], ◌∷◌, ◌++◌, length, Option, Some, None, Bool, true, false, inl, inr, refl, sym, ◌∙◌, ap, subst, arith}
-use Rattle.std.specs.Prelude.{◌||◌, ◌&&◌, ◌==◌, not, if◌then◌else◌}
-use Rattle.std.specs.List.{AllByRecursion, find, flat_map, range_with_len, take_while, prefix_len}
-use Rattle.std.proofs.lemmas.Bool.{cases_Bool, and_parts, false≢true}
+use Rattle.std.proofs.Common.{◌≡◌, ℕ, ◌+◌, ◌-◌, ◌*◌, ◌<◌, ◌≤◌, zero, suc, List, [], ◌∷◌, ◌++◌, length, Option, Some, None, Bool, true, inl, inr, refl, arith}
+use Rattle.std.specs.Prelude.{◌||◌, ◌==◌, not}
+use Rattle.std.specs.List.{AllByRecursion, find, flat_map, range_with_len, prefix_len}
+use Rattle.std.proofs.lemmas.Bool.{cases_Bool, and_parts}
 use Rattle.std.proofs.lemmas.List.Folds.{length-prefix_len}
 use Rattle.std.proofs.lemmas.List.FromFn.{length-range_with_len}
 use Rattle.std.proofs.lemmas.List.Sums.{prefix_len-le-length}
@@ -14,7 +14,7 @@ use Rattle.heap_terms.specs.declared.pages.Entry.TheVariants.{Free, Used}
 use Rattle.heap_terms.specs.declared.programs.Program.{Program}
 use Rattle.heap_terms.specs.Heap.{NamedHeap, object_at, entry_at}
 use Rattle.heap_terms.specs.OnPages.{IsEntry, IsInRun}
-use Rattle.heap_terms.specs.PageViews.{begins_at, begun_at, is_gap, gap_from, gap_begins, item_from, items_of, run_view, entry_view, page_view}
+use Rattle.heap_terms.specs.PageViews.{begins_at, begun_at, is_gap, gap_from, gap_begins, item_from, run_view, entry_view, page_view}
 use Rattle.heap_terms.specs.WellFormed.{IsWellFormed, IsCollected}
 use Rattle.heap_laws.specs.Plain.{IsPlainItem, IsPlainView}
 

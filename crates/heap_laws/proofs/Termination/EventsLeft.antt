@@ -336,7 +336,7 @@ unfolding start
 start_triggers p = refl
 
 -- so that at the start there is no more than two for each thread and for each command, and the weight of each collection
-start_left : (p : Program) → all_left p (start p) ≤ events_at_most p
+pub start_left : (p : Program) → all_left p (start p) ≤ events_at_most p
 start_left p =
     let n = length p.threads in
     let range = range_with_len 0 n in

@@ -5,7 +5,7 @@ use Rattle.heap_terms.specs.Histories.{next, after}
 use Rattle.heap_terms.specs.Outcomes.{outcome_of}
 use Rattle.heap_terms.specs.Passes.{after_pass}
 use Rattle.heap_terms.specs.Placement.{placement}
-use Rattle.heap_terms.specs.Policy.{promotes, raises, goes_on}
+use Rattle.heap_terms.specs.Policy.{is_raised, is_continued}
 use Rattle.heap_terms.specs.Regions.{opened, committed}
 use Rattle.pass_laws.specs.Examples.Making.{heap_at}
 use Rattle.pass_laws.specs.Examples.OldGarbage.{script, first, second, third, fourth, told_first, told_second, told_third, told_fourth}
@@ -15,7 +15,7 @@ use Rattle.pass_laws.proofs.Told.{told_passes}
 use Rattle.pass_laws.proofs.examples.old_garbage_keeps.Goals as goal
 
 pub returns : goal.returns
-unfolding start next after outcome_of opened committed placement after_pass collected promotes raises goes_on step grown
+unfolding start next after outcome_of opened committed placement after_pass collected is_raised is_continued step grown
 returns c = (
   told_passes (heap_at script first) 0 0 4 told_first refl refl refl
       (record { placed = refl; culls = refl; breaks = refl; queued = refl; freed = refl; dead = refl; kept = refl }),
