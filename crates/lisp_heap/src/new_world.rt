@@ -10,6 +10,7 @@ use crate::parcels::Parcel;
 use crate::pins::Pins;
 use crate::states::States;
 use crate::world::World;
+use generation_policy::GenStats;
 use heap_terms::{Memory, Program};
 use page_table::PageTable;
 use std::alloc::Global;
@@ -68,6 +69,9 @@ impl World {
             states,
             pins,
             commits: 0,
+            stats: GenStats::new(),
+            counted: 0,
+            triggered: 0,
             history,
             scratch: None,
         };
