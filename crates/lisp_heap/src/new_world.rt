@@ -59,6 +59,7 @@ impl World {
         let pins = Pins::none(alloc, threads)?;
         let history = Vec::with_capacity(alloc, events_of(&program))?;
         let parcels = fresh_parcels(alloc, threads as u32)?;
+        let stats = GenStats::new();
         let world = World {
             alloc,
             program,
@@ -69,7 +70,7 @@ impl World {
             states,
             pins,
             commits: 0,
-            stats: GenStats::new(),
+            stats,
             counted: 0,
             triggered: 0,
             history,

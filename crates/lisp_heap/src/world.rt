@@ -346,6 +346,10 @@ impl World {
                 let plan = self.viewed(t as usize, p)?;
                 self.carry_out(t, command, plan)
             }
+            Command::Stat { g } => {
+                let plan = self.told(t as usize, g);
+                self.carry_out(t, command, plan)
+            }
             // These allocate.
             Command::NewCons { .. }
             | Command::NewVector { .. }
@@ -362,8 +366,7 @@ impl World {
             | Command::TableCount { .. }
             | Command::Finalize { .. }
             | Command::Cancel { .. }
-            | Command::RunFinalizers
-            | Command::Stat { .. } => unreachable!(),
+            | Command::RunFinalizers => unreachable!(),
         }
     }
 
