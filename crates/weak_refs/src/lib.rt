@@ -1,0 +1,8 @@
+//! Weak pointers and weak tables in a pass: what the pairs of a table keep, the pairs that are
+//! culled, and the weak pointers that are broken.
+#![tactic(auto)]
+
+mod breaking;
+mod places;
+
+pub use breaking::break_dead;
