@@ -4,3 +4,9 @@ pub mod Carrying
 pub mod Pointers
 pub mod Broken
 pub mod BreakingLoop
+pub mod TableSlots
+pub mod TablesNow
+pub mod Pairs
+pub mod Clearing
+pub mod Culled
+pub mod CulledNotes

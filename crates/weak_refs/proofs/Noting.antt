@@ -4,6 +4,7 @@ use Rattle.copy_space.specs.declared.copier.Copier.{Copier}
 use Rattle.copy_space.specs.declared.notes.PassNotes.{PassNotes}
 use Rattle.copy_space.specs.Notes.{SameRest}
 use Rattle.weak_refs.specs.Breaking.{SameButBroken}
+use Rattle.weak_refs.specs.Culling.{SameButCulled}
 use Rattle.weak_refs.specs.Rewriting.{HasSameParts}
 
 pub rest-on : (x y z : PassNotes) → SameRest x y → SameRest y z → SameRest x z
@@ -32,3 +33,6 @@ parts-on x y z h k = record {
 
 pub parts-same : (x : Copier) → HasSameParts x x
 parts-same x = record { same_space = refl; same_pages = refl; same_marks = refl; same_notes = refl }
+
+pub culled-on : (x y z : PassNotes) → SameButCulled x y → SameButCulled y z → SameButCulled x z
+culled-on x y z h k = record { rest = rest-on x y z h.rest k.rest; breaks = k.breaks ∙ h.breaks; queued = k.queued ∙ h.queued }

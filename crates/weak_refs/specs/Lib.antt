@@ -1,3 +1,5 @@
 pub mod Listed
 pub mod Rewriting
 pub mod Breaking
+pub mod Tables
+pub mod Culling

@@ -15,7 +15,7 @@ use heap_terms::Kind;
 use pin_set::PinSet;
 
 /// The word of the value Unbound, to which a broken weak pointer points.
-const UNBOUND: u64 = 0x51;
+pub(crate) const UNBOUND: u64 = 0x51;
 
 /// Breaks each weak pointer of which the value is not settled, and notes where it was before the
 /// pass, in the order of the starts. Every other one gets the word that its value has after the

@@ -3,6 +3,9 @@
 #![tactic(auto)]
 
 mod breaking;
+mod culling;
 mod places;
+mod tables;
 
 pub use breaking::break_dead;
+pub use culling::cull;
