@@ -10,3 +10,6 @@ pub mod Pairs
 pub mod Clearing
 pub mod Culled
 pub mod CulledNotes
+pub mod Readies
+pub mod Midways
+pub mod TableReady

@@ -3,3 +3,4 @@ pub mod Rewriting
 pub mod Breaking
 pub mod Tables
 pub mod Culling
+pub mod Readying

@@ -5,7 +5,9 @@
 mod breaking;
 mod culling;
 mod places;
+mod readying;
 mod tables;
 
 pub use breaking::break_dead;
 pub use culling::cull;
+pub use readying::ready_entries;

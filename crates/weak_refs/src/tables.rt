@@ -7,6 +7,9 @@ ghost use Rattle.weak_refs.specs.Tables.{CanReadTable, IsTableNow};
 
 use copy_space::Copier;
 
+/// Where a table's weakness stands.
+pub(crate) const WEAKNESS: u32 = 1;
+
 /// Where a table's number of pairs stands.
 pub(crate) const COUNT: u32 = 3;
 
