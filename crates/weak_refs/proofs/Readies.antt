@@ -1,20 +1,18 @@
 -- Frames of readying: from one state over another to a third; where no move was added the same is settled.
-use Rattle.std.proofs.Common.{◌≡◌, ℕ, ◌+◌, ◌<◌, ◌≤◌, List, length, Bool, true, false, inl, inr, refl, sym, ◌∙◌, ap, subst, arith, length-append}
-use Rattle.std.proofs.lemmas.Bool.{false≢true}
+use Rattle.std.proofs.Common.{◌≡◌, ℕ, ◌≤◌, length, Bool, true, inl, inr, refl, sym, ap, subst, arith, length-append}
 use Rattle.heap_terms.specs.declared.cells.Value.{Value}
 use Rattle.heap_terms.specs.declared.cells.Value.TheVariants.{Fix, Nil, Unbound, Ref}
 use Rattle.heap_terms.specs.declared.kinds.Weakness.{Weakness}
 use Rattle.heap_terms.specs.declared.kinds.Weakness.TheVariants as weaknesses
 use Rattle.heap_terms.specs.Heap.{NamedHeap}
 use Rattle.heap_terms.specs.Live.{is_live, IsClosed, KeepsSides}
-use Rattle.copy_space.specs.declared.notes.Move.{Move}
 use Rattle.copy_space.specs.declared.notes.Pass.{Pass}
 use Rattle.copy_space.specs.Copying.{Evacuates}
 use Rattle.copy_space.specs.Frames.{Grows}
 use Rattle.copy_space.specs.Midway.{Midway}
-use Rattle.copy_space.specs.Settled.{is_settled, IsWordOf}
+use Rattle.copy_space.specs.Settled.{is_settled}
 use Rattle.copy_space.specs.State.{CopyState}
-use Rattle.copy_space.proofs.FrameLaws.{Goes-same, Goes-on, settled-stays, live-stays, word-of-stays}
+use Rattle.copy_space.proofs.FrameLaws.{Goes-same, Goes-on, settled-stays, word-of-stays}
 use Rattle.copy_space.proofs.Listed.{same-settled}
 use Rattle.weak_refs.specs.Readying.{Readies, HasSameMoves, IsHeld, IsHeldWith, AreHeldBy, CanSettleSide, CanFollow, CanReadyPair}
 

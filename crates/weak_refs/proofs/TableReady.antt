@@ -1,22 +1,21 @@
 -- The pairs of one table, while more and more is settled.
-use Rattle.std.proofs.Common.{◌≡◌, ◌≢◌, ℕ, ◌+◌, ◌*◌, ◌<◌, ◌≤◌, List, length, Option, Some, Bool, true, inl, inr, refl, sym, ◌∙◌, ap, subst, arith}
+use Rattle.std.proofs.Common.{◌≡◌, ◌≢◌, ℕ, ◌+◌, ◌*◌, ◌<◌, ◌≤◌, List, length, Bool, true, inl, inr, refl, sym, ◌∙◌, ap, subst, arith}
 use Rattle.std.proofs.lemmas.Bool.{cases_lt}
 use Rattle.std.proofs.lemmas.List.{get_or_past}
-use Rattle.std.specs.Prelude.{slice_index, slice_index_or}
+use Rattle.std.specs.Prelude.{slice_index}
 use Rattle.heap_terms.specs.declared.cells.Value.{Value}
 use Rattle.heap_terms.specs.declared.kinds.Kind.TheVariants as kinds
 use Rattle.heap_terms.specs.declared.kinds.Weakness.{Weakness}
 use Rattle.heap_terms.specs.declared.kinds.Weakness.TheVariants as weaknesses
-use Rattle.heap_terms.specs.Heap.{NamedHeap, object_at, zero_value}
+use Rattle.heap_terms.specs.Heap.{NamedHeap, zero_value}
 use Rattle.heap_terms.specs.Live.{is_live, Keeps, KeepsSides, KeepPairs}
-use Rattle.heap_terms.specs.Objects.{Object, Contents, WeakTo, kind_of, words_of_object}
+use Rattle.heap_terms.specs.Objects.{Object, Contents, kind_of, words_of_object}
 use Rattle.copy_space.specs.Midway.{Midway}
-use Rattle.copy_space.specs.Moved.{new_of}
-use Rattle.copy_space.specs.Settled.{is_settled, word_before, IsWordOf}
+use Rattle.copy_space.specs.Settled.{is_settled, IsWordOf}
 use Rattle.copy_space.specs.State.{CopyState}
 use Rattle.copy_space.proofs.FrameLaws.{settled-stays, word-of-stays}
 use Rattle.weak_refs.specs.Listed.{IsWeakAt}
-use Rattle.weak_refs.specs.Readying.{Readies, HasSameMoves, CanReadyPair, IsReadyAt}
+use Rattle.weak_refs.specs.Readying.{Readies, HasSameMoves, CanReadyPair, IsReadyAt, AreReady}
 use Rattle.weak_refs.specs.Tables.{IsTableNow, pair_at}
 use Rattle.weak_refs.proofs.Pointers.{pointer_contents}
 use Rattle.weak_refs.proofs.Readies.{same-set, same-first, same-second}
@@ -118,3 +117,11 @@ pointer-ready a s name start m at other = λ x o there settled here.
       | inl weak ↦ (let found = pointer_contents at.o.contents weak in
           subst (λ (p : Object). Keeps (is_settled a s) p.contents) o_is (subst (λ (c : Contents). Keeps (is_settled a s) c) (sym found.1) tt))
     ])
+
+-- one start more is ready
+pub starts-ready-on : (a : NamedHeap) (s r t : CopyState) (starts : List ℕ) (n : ℕ) → Readies a s r → Readies a r t → (HasSameMoves s r → AreReady a r starts n) →
+    (HasSameMoves r t → IsReadyAt a t (slice_index starts n)) → HasSameMoves s t → AreReady a t starts (n + 1)
+starts-ready-on a s r t starts n h k so_far one same j l = elim (cases_lt j n) [
+  | inl before ↦ ready-stays a r t (slice_index starts j) h.midway k (same-second a s r t h k same) (so_far (same-first a s r t h k same) j before)
+  | inr now ↦ (let j_is : n ≡ j = omega arith in subst (λ (i : ℕ). IsReadyAt a t (slice_index starts i)) j_is (one (same-second a s r t h k same)))
+]

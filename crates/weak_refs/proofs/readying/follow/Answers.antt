@@ -1,9 +1,7 @@
 -- The side is settled where the other one is.
-use Rattle.std.proofs.Common.{◌≡◌, true, false, sym, ◌∙◌}
-use Rattle.std.proofs.lemmas.Bool.{false≢true}
+use Rattle.std.proofs.Common.{sym, ◌∙◌}
 use Rattle.copy_space.specs.State.{state}
-use Rattle.scavenge.proofs.Frames.{same-self}
-use Rattle.weak_refs.proofs.Readies.{side-follows, readies-same}
+use Rattle.weak_refs.proofs.Readies.{side-follows}
 use Rattle.weak_refs.proofs.readying.follow.Goals as goal
 
 pub settle_side-requires : goal.settle_side-requires

@@ -1,6 +1,5 @@
 -- By weakness: what it keeps of the pair is settled.
-use Rattle.std.proofs.Common.{◌≡◌, ℕ, Bool, true, sym, ◌∙◌, subst}
-use Rattle.heap_terms.specs.declared.cells.Value.{Value}
+use Rattle.std.proofs.Common.{◌≡◌, ℕ, Bool, true, subst}
 use Rattle.heap_terms.specs.declared.kinds.Weakness.TheVariants as weaknesses
 use Rattle.heap_terms.specs.Live.{is_live}
 use Rattle.copy_space.specs.Settled.{is_settled}

@@ -1,4 +1,4 @@
-use Rattle.std.proofs.Common.{◌≡◌, ℕ, ◌<◌, length}
+use Rattle.std.proofs.Common.{ℕ, ◌<◌, length}
 use Rattle.heap_terms.specs.Live.{is_live, KeepsSides}
 use Rattle.copy_space.specs.Settled.{is_settled}
 use Rattle.copy_space.specs.State.{state}
