@@ -1,17 +1,22 @@
 -- What stands at one start is one object; and where it was before the pass is told by the moves.
-use Rattle.std.proofs.Common.{◌≡◌, ◌≢◌, ℕ, suc, ◌<◌, List, [], ◌∷◌, length, get_or, Some, true, false, inl, inr, sym, ◌∙◌, ap, subst, arith}
-use Rattle.std.proofs.lemmas.Bool.{cases_eq, eq-eqb, ne_eqb}
+use Rattle.std.proofs.Common.{◌≡◌, ◌≢◌, ℕ, suc, ◌/◌, ◌<◌, List, [], ◌∷◌, length, get_or, Option, Some, None, true, false, inl, inr, refl, sym, ◌∙◌, ap, subst, arith}
+use Rattle.std.proofs.lemmas.Bool.{cases_eq, eq-eqb, ne_eqb, false≢true}
 use Rattle.std.proofs.lemmas.Option.{same_Some}
 use Rattle.std.specs.Prelude.{◌==◌}
-use Rattle.heap_terms.specs.Heap.{NamedHeap, object_at}
+use Rattle.heap_terms.specs.Heap.{NamedHeap, object_at, entry_at}
 use Rattle.heap_terms.specs.Objects.{Object}
+use Rattle.heap_terms.specs.OnPages.{IsPlaced}
+use Rattle.heap_terms.specs.Passes.{moved_to}
+use Rattle.heap_terms.specs.Placement.{scratch}
+use Rattle.pass_laws.specs.Spread.{settled, moved_object}
 use Rattle.pass_laws.proofs.Sizes.{words_least}
 use Rattle.copy_space.specs.declared.notes.Move.{Move}
 use Rattle.copy_space.specs.Midway.{IsPlacedSoFar}
 use Rattle.copy_space.specs.Moved.{new_of}
+use Rattle.copy_space.specs.Pages.{is_page_of}
 use Rattle.copy_space.specs.State.{CopyState}
 use Rattle.copy_space.proofs.Listed.{move-is}
-use Rattle.copy_space.proofs.Places.{now_apart}
+use Rattle.copy_space.proofs.Places.{now_apart, now_unmoved, said, placed_now, placed_page}
 use Rattle.copy_space.proofs.Referents.{ms, its}
 
 module _ (a : NamedHeap) (s : CopyState) (h : IsPlacedSoFar a s) where
@@ -43,3 +48,17 @@ unmoved-there (m ∷ rest) d start p none e = elim (cases_eq m.old p) [
   | inr other ↦ (let miss : (m.old == p) ≡ false = ne_eqb m.old p other in
       unmoved-there rest d start p (λ k l. none (suc k) (omega arith)) (rw miss at e))
 ]
+
+-- what stands on no page that was taken has not moved
+pub unmoved-off : (a : NamedHeap) (s : CopyState) (h : IsPlacedSoFar a s) (name : ℕ) (o : Object) → object_at a.objects name ≡ Some o →
+    is_page_of (entry_at s.pages (new_of s.moves o.place / 512)) scratch ≡ false → new_of s.moves o.place ≡ o.place
+unmoved-off a s h name o there off = go (moved_to (ms a s h) name) refl
+  where
+    go : (to : Option ℕ) → moved_to (ms a s h) name ≡ to → new_of s.moves o.place ≡ o.place
+    go None e = now_unmoved a s (ms a s h) h.sound (its a s h) name o there e
+    go (Some index) e =
+        let here : new_of s.moves o.place ≡ index = (said a s (ms a s h) h.sound (its a s h) name o there).0 ∙ ap (λ (t : Option ℕ). (settled t o).place) e in
+        let placed : IsPlaced s.pages (moved_object o index) = subst (λ (t : Option ℕ). IsPlaced s.pages (settled t o)) e (placed_now a s (ms a s h) h.sound (its a s h) name o there) in
+        let least = words_least o in
+        let taken = placed_page s.pages (moved_object o index) (its a s h).most placed index (omega arith) (omega arith) in
+        absurd (false≢true (sym off ∙ ap (λ (i : ℕ). is_page_of (entry_at s.pages (i / 512)) scratch) here ∙ taken))

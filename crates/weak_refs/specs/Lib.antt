@@ -1,4 +1,5 @@
 pub mod Listed
+pub mod Places
 pub mod Rewriting
 pub mod Breaking
 pub mod Tables

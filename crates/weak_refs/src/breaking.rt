@@ -31,13 +31,14 @@ pub fn break_dead(weak: &PinSet, copier: &mut Copier)
     ensures notes { SameButBroken copier.old.notes.now copier.new.notes.now }
     ensures parts { HasSameParts copier.old copier.new }
 {
+    let mut next = 0;
     for i in 0..weak.len() {
-        break_at(copier, weak.at(i));
+        break_at(copier, weak.at(i), &mut next);
     }
 }
 
 /// Breaks what stands at a start, if it is a weak pointer to what is not settled.
-fn break_at(copier: &mut Copier, start: u32)
+fn break_at(copier: &mut Copier, start: u32, next: &mut usize)
     ghost a: { NamedHeap }
     requires { CanBreakAt a (state copier.old) start copier.old.notes.now }
     ensures left { IsRewritten a (state copier.old) (state copier.new) Kind.Weak start }
@@ -48,14 +49,14 @@ fn break_at(copier: &mut Copier, start: u32)
     ensures parts { HasSameParts copier.old copier.new }
 {
     match kind_at(copier.space(), start) {
-        Kind::Weak => break_pointer(copier, start),
+        Kind::Weak => break_pointer(copier, start, next),
         _ => {}
     }
 }
 
 /// Breaks the weak pointer at a start where its value is not settled, else gives it the word of its
 /// value after the pass.
-fn break_pointer(copier: &mut Copier, start: u32)
+fn break_pointer(copier: &mut Copier, start: u32, next: &mut usize)
     ghost a: { NamedHeap }
     requires { CanBreakPointer a (state copier.old) start copier.old.notes.now }
     ensures left { (q : IsPointerNow a (state copier.old) start) →
@@ -68,7 +69,7 @@ fn break_pointer(copier: &mut Copier, start: u32)
     match copier.word_now(word) {
         Some(now) => copier.write(start + 1, now),
         None => {
-            let place = place_before(copier, start);
+            let place = place_before(copier, start, next);
             copier.write(start + 1, UNBOUND);
             copier.note_break(place);
         }

@@ -34,13 +34,14 @@ pub fn cull(weak: &PinSet, copier: &mut Copier)
     ensures notes { SameButCulled copier.old.notes.now copier.new.notes.now }
     ensures parts { HasSameParts copier.old copier.new }
 {
+    let mut next = 0;
     for i in 0..weak.len() {
-        cull_at(copier, weak.at(i));
+        cull_at(copier, weak.at(i), &mut next);
     }
 }
 
 /// Takes the dead pairs out of what stands at a start, if it is a table.
-fn cull_at(copier: &mut Copier, start: u32)
+fn cull_at(copier: &mut Copier, start: u32, next: &mut usize)
     ghost a: { NamedHeap }
     requires { CanCullAt a (state copier.old) start copier.old.notes.now }
     ensures left { IsRewritten a (state copier.old) (state copier.new) Kind.Table start }
@@ -51,13 +52,13 @@ fn cull_at(copier: &mut Copier, start: u32)
     ensures parts { HasSameParts copier.old copier.new }
 {
     match kind_at(copier.space(), start) {
-        Kind::Table => cull_table(copier, start),
+        Kind::Table => cull_table(copier, start, next),
         _ => {}
     }
 }
 
 /// Takes the dead pairs out of the table at a start.
-fn cull_table(copier: &mut Copier, start: u32)
+fn cull_table(copier: &mut Copier, start: u32, next: &mut usize)
     ghost a: { NamedHeap }
     requires { CanCullTable a (state copier.old) start copier.old.notes.now }
     ensures left { IsRewritten a (state copier.old) (state copier.new) Kind.Table start }
@@ -67,7 +68,7 @@ fn cull_table(copier: &mut Copier, start: u32)
     ensures notes { SameButCulled copier.old.notes.now copier.new.notes.now }
     ensures parts { HasSameParts copier.old copier.new }
 {
-    let place = place_before(copier, start);
+    let place = place_before(copier, start, next);
     let count = pair_count(copier, start);
     let from = start + PAIRS;
     let to = keep_pairs(copier, start, place, count);

@@ -14,6 +14,11 @@ pub word_now-requires : goal.word_now-requires
 word_now-requires g c =
     pointer-look g.a (state c.args.copier.now) c.args.start c.requires.places c.requires.pointer c.read-word.result (rw c.space.ensures at c.read-word.ensures)
 
+pub place_before-place-requires : goal.place_before-place-requires
+place_before-place-requires g c =
+    let inside = pointer-inside g.a (state c.args.copier.now) c.args.start c.requires.places c.requires.pointer in
+    record { places = c.requires.places; inside = omega arith }
+
 pub write-requires : goal.write-requires
 write-requires g c =
     let inside = pointer-inside g.a (state c.args.copier.now) c.args.start c.requires.places c.requires.pointer in

@@ -6,6 +6,11 @@ use Rattle.weak_refs.proofs.Culled.{can-clear, table-rewritten}
 use Rattle.weak_refs.proofs.TablesNow.{table-inside}
 use Rattle.weak_refs.proofs.culling.cull_table.Goals as goal
 
+pub place_before-place-requires : goal.place_before-place-requires
+place_before-place-requires g c =
+    let inside = table-inside g.a (state c.args.copier.now) c.args.start c.requires.places c.requires.table in
+    record { places = c.requires.places; inside = omega arith }
+
 pub keep_pairs-to-requires : goal.keep_pairs-to-requires
 keep_pairs-to-requires g c =
     let q = c.requires.table in
