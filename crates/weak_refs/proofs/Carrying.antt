@@ -25,6 +25,17 @@ use Rattle.weak_refs.specs.Rewriting.{StandsAfter, IsWeakStart, IsIn, IsInSome, 
 abbrev pub over : CopyState → List ℕ → CopyState
 over s w = record s { words = w }
 
+-- a word that stands midway for a slot stands so in a state with other words
+pub slot-over : (a : NamedHeap) (s : CopyState) (w : List ℕ) (slot : Slot) (old new : ℕ) → new ≡ old → SlotMidway a s slot old → SlotMidway a (over s w) slot new
+slot-over a s w slot old new same stood = subst (λ (x : ℕ). SlotMidway a (over s w) slot x) (sym same) (go slot stood)
+  where
+    go : (slot : Slot) → SlotMidway a s slot old → SlotMidway a (over s w) slot old
+    go (Raw r) e = e
+    go (Val v) (inl e) = inl e
+    go (Val v) (inr e) = inr (record { settled = e.settled; is = e.is })
+    go (Side v) e = e
+    go Kept e = tt
+
 -- nothing rewritten yet
 pub rewritten-none : (a : NamedHeap) (s : CopyState) (kind : Kind) (starts : List ℕ) → IsPlacedSoFar a s → AreRewritten a s s kind starts 0
 rewritten-none a s kind starts places = record {
@@ -132,16 +143,9 @@ module _ (a : NamedHeap) (s : CopyState) (h : IsPlacedSoFar a s) (kind : Kind) w
           });
         }
       where
-        same_slot : (slot : Slot) (word : ℕ) → SlotMidway a s slot word → SlotMidway a (over s w) slot word
-        same_slot (Raw r) word e = e
-        same_slot (Val v) word (inl e) = inl e
-        same_slot (Val v) word (inr e) = inr (record { settled = e.settled; is = e.is })
-        same_slot (Side v) word e = e
-        same_slot Kept word e = tt
-
         midway_same : (i : ℕ) (slot : Slot) → slice_index w (new_of s.moves start.at.o.place + i) ≡ slice_index s.words (new_of s.moves start.at.o.place + i) →
             SlotMidway a s slot (slice_index s.words (new_of s.moves start.at.o.place + i)) → SlotMidway a (over s w) slot (slice_index w (new_of s.moves start.at.o.place + i))
-        midway_same i slot same stood = subst (λ (x : ℕ). SlotMidway a (over s w) slot x) (sym same) (same_slot slot (slice_index s.words (new_of s.moves start.at.o.place + i)) stood)
+        midway_same i slot same stood = slot-over a s w slot (slice_index s.words (new_of s.moves start.at.o.place + i)) (slice_index w (new_of s.moves start.at.o.place + i)) same stood
 
     -- what is to come stands as it did
     pub start-waits : (r : CopyState) → AreRewritten a s r kind starts n → IsWeakStart a s kind (slice_index starts n) → IsWeakStart a r kind (slice_index starts n)

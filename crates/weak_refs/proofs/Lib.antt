@@ -13,3 +13,4 @@ pub mod CulledNotes
 pub mod Readies
 pub mod Midways
 pub mod TableReady
+pub mod Ends

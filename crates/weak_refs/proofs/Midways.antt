@@ -21,13 +21,11 @@ use Rattle.weak_refs.specs.Listed.{AreNamed, IsWeakAt}
 use Rattle.weak_refs.specs.Readying.{Readies, AreReady}
 use Rattle.weak_refs.specs.Rewriting.{AreWeakStarts, IsWeakStart}
 
-pub weak-start : (a : NamedHeap) (s : CopyState) (kind : Kind) (name start : ℕ) → Midway a s → IsWeakAt a s name start → IsWeakStart a s kind start
-weak-start a s kind name start m at = record {
-  name = name;
-  at = at;
-  header = first;
-  before = λ is. record { slots = m.spelled.slots name at.o at.there; kept = m.spelled.kept name at.o at.there };
-}
+pub weak-header : (a : NamedHeap) (s : CopyState) (name start : ℕ) → Midway a s → (at : IsWeakAt a s name start) → slice_index s.words start ≡ header_of (kind_of at.o.contents) (payload_of at.o.contents)
+weak-header a s name start m at =
+    let none : new_of s.moves at.o.place + 0 ≡ start = (let here = at.here in omega arith) in
+    ap (λ (i : ℕ). slice_index s.words i) (sym none)
+    ∙ m.spelled.slots name at.o at.there 0 (Raw (header_of (kind_of at.o.contents) (payload_of at.o.contents))) (header_leads at.o.contents (m.places.sound.objects name at.o at.there).shape headed)
   where
     headed : kind_of at.o.contents ≢ kinds.Cons
     headed cons = elim at.weak [
@@ -35,11 +33,13 @@ weak-start a s kind name start m at = record {
       | inr table ↦ (let never : kinds.Table ≡ kinds.Cons = sym table ∙ cons in cc)
     ]
 
-    first : slice_index s.words start ≡ header_of (kind_of at.o.contents) (payload_of at.o.contents)
-    first =
-        let none : new_of s.moves at.o.place + 0 ≡ start = (let here = at.here in omega arith) in
-        ap (λ (i : ℕ). slice_index s.words i) (sym none)
-        ∙ m.spelled.slots name at.o at.there 0 (Raw (header_of (kind_of at.o.contents) (payload_of at.o.contents))) (header_leads at.o.contents (m.places.sound.objects name at.o at.there).shape headed)
+pub weak-start : (a : NamedHeap) (s : CopyState) (kind : Kind) (name start : ℕ) → Midway a s → IsWeakAt a s name start → IsWeakStart a s kind start
+weak-start a s kind name start m at = record {
+  name = name;
+  at = at;
+  header = weak-header a s name start m at;
+  before = λ is. record { slots = m.spelled.slots name at.o at.there; kept = m.spelled.kept name at.o at.there };
+}
 
 pub weak-starts : (a : NamedHeap) (s : CopyState) (kind : Kind) (starts names : List ℕ) → Midway a s → AreNamed a s starts names → AreWeakStarts a s kind starts
 weak-starts a s kind starts names m named = record {
