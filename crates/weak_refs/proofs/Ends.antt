@@ -1,6 +1,6 @@
 -- After tables are culled weak pointers can be broken; and after both, what stands at the starts stands for what survives, and every
 -- other settled object has the words that it had.
-use Rattle.std.proofs.Common.{◌≡◌, ◌≢◌, ℕ, ◌+◌, ◌<◌, ◌≤◌, List, length, Option, Some, true, inl, inr, refl, sym, ◌∙◌, ap, subst, arith}
+use Rattle.std.proofs.Common.{◌≡◌, ◌≢◌, ℕ, ◌+◌, ◌<◌, List, length, Option, Some, true, inl, inr, sym, ◌∙◌, ap, subst, arith}
 use Rattle.std.proofs.lemmas.Bool.{cases_eq}
 use Rattle.std.proofs.lemmas.Option.{same_Some}
 use Rattle.std.specs.Prelude.{IfSome, slice_index}
@@ -9,14 +9,14 @@ use Rattle.heap_terms.specs.declared.kinds.Kind.TheVariants as kinds
 use Rattle.heap_terms.specs.Heap.{NamedHeap, object_at}
 use Rattle.heap_terms.specs.Layout.{header_of}
 use Rattle.heap_terms.specs.Objects.{Object, kind_of, payload_of, words_of_object}
-use Rattle.heap_terms.specs.Slots.{Slot, Kept, slot_at}
+use Rattle.heap_terms.specs.Slots.{Slot, Kept}
 use Rattle.heap_terms.specs.Stands.{StandsFor}
 use Rattle.heap_terms.specs.Survival.{surviving}
 use Rattle.pass_laws.proofs.AfterPages.{surviving-kind, surviving-payload}
 use Rattle.pass_laws.proofs.AfterPass.{IsShaped-surviving}
 use Rattle.pass_laws.proofs.Sizes.{words_least}
 use Rattle.copy_space.specs.declared.notes.PassNotes.{PassNotes}
-use Rattle.copy_space.specs.Midway.{IsPlacedSoFar, Midway, StandsMidway as SlotMidway}
+use Rattle.copy_space.specs.Midway.{IsPlacedSoFar, Midway}
 use Rattle.copy_space.specs.Moved.{new_of, objects_now}
 use Rattle.copy_space.specs.Settled.{is_settled}
 use Rattle.copy_space.specs.State.{CopyState}
@@ -25,11 +25,10 @@ use Rattle.copy_space.proofs.Referents.{ms, its}
 use Rattle.copy_space.proofs.Shapes.{header_leads, slot-below}
 use Rattle.weak_refs.specs.Breaking.{CanBreak, HasRoomForBreaks, broken_of}
 use Rattle.weak_refs.specs.Listed.{AreNamed, IsWeakAt}
-use Rattle.weak_refs.specs.Rewriting.{StandsAsLeft, StandsAfter, IsWeakStart, IsInSome, AreRewritten}
+use Rattle.weak_refs.specs.Rewriting.{StandsAfter, IsWeakStart, IsInSome, AreRewritten}
 use Rattle.weak_refs.proofs.BreakingLoop.{weak-over}
 use Rattle.weak_refs.proofs.Carrying.{over, after-same, slot-over}
 use Rattle.weak_refs.proofs.Midways.{weak-header}
-use Rattle.weak_refs.proofs.Starts.{same-now}
 
 module _ (a : NamedHeap) (s : CopyState) (h : IsPlacedSoFar a s) (kind : Kind) (starts : List ℕ) (n : ℕ) where
   -- an object of another kind has no word in what was rewritten

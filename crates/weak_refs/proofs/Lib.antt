@@ -14,3 +14,4 @@ pub mod Readies
 pub mod Midways
 pub mod TableReady
 pub mod Ends
+pub mod Noted

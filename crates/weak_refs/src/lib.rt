@@ -7,6 +7,8 @@ mod culling;
 mod places;
 mod readying;
 mod tables;
+#[cfg(test)]
+mod tests;
 
 pub use breaking::break_dead;
 pub use culling::cull;

@@ -40,9 +40,9 @@ loop-i-preserved g c =
     let inside : c.loop-i.i < length starts = omega arith in
     let one : IsRewritten g.a r t kinds.Weak (slice_index starts c.loop-i.i) = subst (λ (start : ℕ). IsRewritten g.a r t kinds.Weak start) c.at.ensures c.break_at.ensures.left in
     let noted : (name : ℕ) → IsWeakAt g.a r name (slice_index starts c.loop-i.i) →
-        c.break_at.new.copier.notes.now.breaks.items ≡ c.loop-i.copier.notes.now.breaks.items ++ broken_of g.a (is_settled g.a r) (name ∷ []) =
+    c.break_at.new.copier.notes.now.breaks.items ≡ c.loop-i.copier.notes.now.breaks.items ++ broken_of g.a (is_settled g.a r) (name ∷ []) =
     subst (λ (start : ℕ). (name : ℕ) → IsWeakAt g.a r name start →
-        c.break_at.new.copier.notes.now.breaks.items ≡ c.loop-i.copier.notes.now.breaks.items ++ broken_of g.a (is_settled g.a r) (name ∷ [])) c.at.ensures c.break_at.ensures.noted in
+    c.break_at.new.copier.notes.now.breaks.items ≡ c.loop-i.copier.notes.now.breaks.items ++ broken_of g.a (is_settled g.a r) (name ∷ [])) c.at.ensures c.break_at.ensures.noted in
     record {
       left = rewritten-on g.a s c.requires.starts_are.places kinds.Weak starts c.len-i-end.ensures.once c.loop-i.i inside r t c.loop-i.invariant.left one;
       noted = noted-next g.a s r starts c.len-i-end.ensures.once c.loop-i.i inside c.args.copier.now.notes.now c.loop-i.copier.notes.now c.requires

@@ -40,9 +40,9 @@ loop-i-preserved g c =
     let inside : c.loop-i.i < length starts = omega arith in
     let one : IsRewritten g.a r t kinds.Table (slice_index starts c.loop-i.i) = subst (λ (start : ℕ). IsRewritten g.a r t kinds.Table start) c.at.ensures c.cull_at.ensures.left in
     let noted : (name : ℕ) → IsWeakAt g.a r name (slice_index starts c.loop-i.i) →
-        c.cull_at.new.copier.notes.now.culls.items ≡ c.loop-i.copier.notes.now.culls.items ++ culled_of g.a (is_settled g.a r) (name ∷ []) =
+    c.cull_at.new.copier.notes.now.culls.items ≡ c.loop-i.copier.notes.now.culls.items ++ culled_of g.a (is_settled g.a r) (name ∷ []) =
     subst (λ (start : ℕ). (name : ℕ) → IsWeakAt g.a r name start →
-        c.cull_at.new.copier.notes.now.culls.items ≡ c.loop-i.copier.notes.now.culls.items ++ culled_of g.a (is_settled g.a r) (name ∷ [])) c.at.ensures c.cull_at.ensures.noted in
+    c.cull_at.new.copier.notes.now.culls.items ≡ c.loop-i.copier.notes.now.culls.items ++ culled_of g.a (is_settled g.a r) (name ∷ [])) c.at.ensures c.cull_at.ensures.noted in
     record {
       left = rewritten-on g.a s c.requires.starts_are.places kinds.Table starts c.len-i-end.ensures.once c.loop-i.i inside r t c.loop-i.invariant.left one;
       noted = culls-next g.a s r starts c.len-i-end.ensures.once c.loop-i.i inside c.args.copier.now.notes.now c.loop-i.copier.notes.now c.requires

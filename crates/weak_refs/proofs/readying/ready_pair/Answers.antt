@@ -38,9 +38,10 @@ returns-in-Strong-clause-ready g c = λ u v hu hv same.
     (let s = state c.args.copier.now in
     let t = state c.settle_side.new.copier in
     let z = state c.settle_side-in-Strong.new.copier in
-    ready-as c.args.weakness weaknesses.Strong (is_live (is_settled g.a z) u) (is_live (is_settled g.a z) v) c.in-Strong.is
-    (live-stays g.a t z c.settle_side-in-Strong.ensures.readies.goes.grows u (c.settle_side.ensures.settled u hu),
-    c.settle_side-in-Strong.ensures.settled v (word-of-stays g.a s t c.settle_side.ensures.readies.goes.grows v c.args.value hv)))
+    ready-as c.args.weakness weaknesses.Strong (is_live (is_settled g.a z) u) (is_live (is_settled g.a z) v) c.in-Strong.is (
+      live-stays g.a t z c.settle_side-in-Strong.ensures.readies.goes.grows u (c.settle_side.ensures.settled u hu),
+      c.settle_side-in-Strong.ensures.settled v (word-of-stays g.a s t c.settle_side.ensures.readies.goes.grows v c.args.value hv),
+    ))
 
 pub returns-in-Strong-clause-same : goal.returns-in-Strong-clause-same
 returns-in-Strong-clause-same g c = same-on c.args.copier.now c.settle_side.new.copier c.settle_side-in-Strong.new.copier c.settle_side.ensures.same c.settle_side-in-Strong.ensures.same
@@ -68,10 +69,11 @@ returns-in-KeyOrValue-clause-ready g c = λ u v hu hv same.
     let k = c.follow-in-KeyOrValue-2.ensures.readies in
     let one = same-first g.a s t z h k same in
     let two = same-second g.a s t z h k same in
-    ready-as c.args.weakness weaknesses.KeyOrValue (is_live (is_settled g.a z) u) (is_live (is_settled g.a z) v) c.in-KeyOrValue.is
-    ((λ live. live-stays g.a t z k.goes.grows v (c.follow-in-KeyOrValue.ensures.ready u v hu hv one
-        (subst (λ (f : ℕ → Bool). is_live f u ≡ true) (same-set g.a t z h.midway k two) live))),
-    c.follow-in-KeyOrValue-2.ensures.ready v u (word-of-stays g.a s t h.goes.grows v c.args.value hv) (word-of-stays g.a s t h.goes.grows u c.args.key hu) two))
+    ready-as c.args.weakness weaknesses.KeyOrValue (is_live (is_settled g.a z) u) (is_live (is_settled g.a z) v) c.in-KeyOrValue.is (
+      (λ live. live-stays g.a t z k.goes.grows v (c.follow-in-KeyOrValue.ensures.ready u v hu hv one
+          (subst (λ (f : ℕ → Bool). is_live f u ≡ true) (same-set g.a t z h.midway k two) live))),
+      c.follow-in-KeyOrValue-2.ensures.ready v u (word-of-stays g.a s t h.goes.grows v c.args.value hv) (word-of-stays g.a s t h.goes.grows u c.args.key hu) two,
+    ))
 
 pub returns-in-KeyOrValue-clause-same : goal.returns-in-KeyOrValue-clause-same
 returns-in-KeyOrValue-clause-same g c =
