@@ -23,7 +23,7 @@ pub struct Move {
 /// A pair that was taken out of a table.
 #[derive(Clone, Copy, Debug, PartialEq, Eq)]
 pub struct CullNote {
-    /// Where the table is after the pass.
+    /// Where the table was before the pass.
     pub table: u32,
     /// The word of the key before the pass.
     pub key: u64,
@@ -44,7 +44,7 @@ pub struct PassNotes {
     pub pins: Vec<u32>,
     /// The pairs that were taken out of tables.
     pub culls: Vec<CullNote>,
-    /// Where the weak pointers are, after the pass, that were broken.
+    /// Where the weak pointers that were broken were before the pass.
     pub breaks: Vec<u32>,
     /// The numbers of the finalizers that were queued.
     pub queued: Vec<u32>,

@@ -14,6 +14,7 @@ use Rattle.journal_text.specs.declared.parsing.pieces.Piece.TheVariants as piece
 use Rattle.journal_text.specs.Builder.{Adds, AddsLine, State, StopsAt, TakesLine, add}
 use Rattle.journal_text.proofs.Distinct.{content, content_no_lf, content_read, text_content}
 use Rattle.journal_text.proofs.Pieces.{IsPiece}
+use Rattle.journal_text.specs.Lines.{piece_text}
 use Rattle.journal_text.specs.Plain.{Acts, Answers, IsDeed}
 use Rattle.journal_text.specs.Rows.{may_answer}
 
@@ -51,21 +52,14 @@ deed_piece (Opened t ty first k) h = absurd h
 deed_piece (Collected t last passes) h = absurd h
 deed_piece (Ended t) h = absurd h
 
-deed_line : (bytes after : List ℕ) (e : Event) → bytes ≡ event_text e ++ after → IsDeed e → bytes ≡ content (pieces.Event e) ++ 10 ∷ after
-deed_line bytes after e text deed = text ∙ text_content (pieces.Event e) after (deed_piece e deed)
+pub piece_took : (s t : State) (bytes after : List ℕ) (p : Piece) → bytes ≡ piece_text p ++ after → IsPiece p → add s p ≡ Some t → TakesLine s bytes after t
+piece_took s t bytes after p text ok added = record { content = content p; text = text ∙ text_content p after ok; adds = rw (content_read p ok) added }
 
-pub deed_took : (s t : State) (bytes after : List ℕ) (e : Event) → bytes ≡ event_text e ++ after → IsDeed e → add s (pieces.Event e) ≡ Some t → TakesLine s bytes after t
-deed_took s t bytes after e text deed added = record {
-  content = content (pieces.Event e);
-  text = deed_line bytes after e text deed;
-  adds = rw (content_read (pieces.Event e) (deed_piece e deed)) added;
-}
-
-pub deed_stops : (s t : State) (bytes after : List ℕ) (e : Event) (fault : LineFault) → bytes ≡ event_text e ++ after → IsDeed e → Adds (add s (pieces.Event e)) t (Err fault) → StopsAt s bytes t fault
-deed_stops s t bytes after e fault text deed added = record {
-  content = content (pieces.Event e);
+pub piece_stops : (s t : State) (bytes after : List ℕ) (p : Piece) (fault : LineFault) → bytes ≡ piece_text p ++ after → IsPiece p → Adds (add s p) t (Err fault) → StopsAt s bytes t fault
+piece_stops s t bytes after p fault text ok added = record {
+  content = content p;
   after = after;
-  text = deed_line bytes after e text deed;
-  plain = content_no_lf (pieces.Event e) (deed_piece e deed);
-  adds = subst (λ (told : Option Piece). AddsLine s told t (Err fault)) (sym (content_read (pieces.Event e) (deed_piece e deed))) added;
+  text = text ∙ text_content p after ok;
+  plain = content_no_lf p ok;
+  adds = subst (λ (told : Option Piece). AddsLine s told t (Err fault)) (sym (content_read p ok)) added;
 }

@@ -130,6 +130,8 @@ fn usual_lines(rt: HostRuntime) {
         ("0 cons s0 s1 s2 -> #0\n", 1),
         ("0 cons s0 s1 s2 -> #0 @0 \n", 1),
         ("0 collect 0\npass 0 1\n0 fix s0 5 -> ok\n", 3),
+        ("0 collect 0\npass 0 1\nmove #0 @0 @2 \n", 3),
+        ("0 collect 0\npass 0 1\nmove #0 @00 @2\n", 3),
     ] {
         assert_eq!(rt;
             fault_of(rt.alloc(), text.as_bytes()),

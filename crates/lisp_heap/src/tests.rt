@@ -211,10 +211,12 @@ fn commands(rt: &impl Abort, world: &mut World, t: u32, count: u32) -> Result<()
 /// The fault of a command.
 fn refused(world: &World, i: usize) -> Option<Refusal> {
     match world.history().get(i) {
-        Some(Event::Did {
-            answer: Answer::Refused(refusal),
-            ..
-        }) => Some(*refusal),
+        Some(
+            Event::Did {
+                answer: Answer::Refused(refusal),
+                ..
+            },
+        ) => Some(*refusal),
         _ => None,
     }
 }

@@ -107,17 +107,17 @@ module _ (a : NamedHeap) (start end next : ℕ) (p : IsStretch a start end) (ite
       let one = object_items a p.sound start end name o there in
       let all : items_between a start end start (x + n - start) ≡ items ++ gap_between next x ++ record { name = Some name; index = x; count = 0 } ∷ [] =
       (let e : x + n - start ≡ (next - start) + (x - next) + n = omega arith in
-          let to_next : start + (next - start) ≡ next = omega arith in
-          let to_x : start + ((next - start) + (x - next)) ≡ x = omega arith in
-          ap (items_between a start end start) e
-          ∙ items_after a start end start ((next - start) + (x - next)) n
-          ∙ ap (λ (ys : List Item). ys ++ items_between a start end (start + ((next - start) + (x - next))) n)
-          (items_after a start end start (next - start) (x - next)
-          ∙ ap (λ (ys : List Item). ys ++ items_between a start end (start + (next - start)) (x - next)) (sym items_are)
-          ∙ ap (λ (y : ℕ). items ++ items_between a start end y (x - next)) to_next
-          ∙ ap (λ (ys : List Item). items ++ ys) gap)
-          ∙ ap (λ (y : ℕ). (items ++ gap_between next x) ++ items_between a start end y n) to_x
-          ∙ ap (λ (ys : List Item). (items ++ gap_between next x) ++ ys) one) in
+      let to_next : start + (next - start) ≡ next = omega arith in
+      let to_x : start + ((next - start) + (x - next)) ≡ x = omega arith in
+      ap (items_between a start end start) e
+      ∙ items_after a start end start ((next - start) + (x - next)) n
+      ∙ ap (λ (ys : List Item). ys ++ items_between a start end (start + ((next - start) + (x - next))) n)
+      (items_after a start end start (next - start) (x - next)
+      ∙ ap (λ (ys : List Item). ys ++ items_between a start end (start + (next - start)) (x - next)) (sym items_are)
+      ∙ ap (λ (y : ℕ). items ++ items_between a start end y (x - next)) to_next
+      ∙ ap (λ (ys : List Item). items ++ ys) gap)
+      ∙ ap (λ (y : ℕ). (items ++ gap_between next x) ++ items_between a start end y n) to_x
+      ∙ ap (λ (ys : List Item). (items ++ gap_between next x) ++ ys) one) in
       rw (index_is, size_is) (record {
         starts = others;
         left_are = rest_is;
@@ -153,10 +153,10 @@ seen_end a start end next items p h = by_starts h.starts h.left_are h.objects
         let at_end : start + (end - start) ≡ end = omega arith in
         let all : items_between a start end start (end - start) ≡ items ++ gap_between next end =
         (ap (items_between a start end start) whole
-            ∙ items_after a start end start (next - start) (end - next)
-            ∙ ap (λ (ys : List Item). ys ++ items_between a start end (start + (next - start)) (end - next)) (sym h.items_are)
-            ∙ ap (λ (y : ℕ). items ++ items_between a start end y (end - next)) to_next
-            ∙ ap (λ (ys : List Item). items ++ ys) gap) in
+        ∙ items_after a start end start (next - start) (end - next)
+        ∙ ap (λ (ys : List Item). ys ++ items_between a start end (start + (next - start)) (end - next)) (sym h.items_are)
+        ∙ ap (λ (y : ℕ). items ++ items_between a start end y (end - next)) to_next
+        ∙ ap (λ (ys : List Item). items ++ ys) gap) in
         sym all ∙ ap (λ (y : ℕ). items_between a start y start (end - start)) (sym at_end)
 
 -- the next object of a walk, and what is gone over with it

@@ -1,20 +1,22 @@
-//! The usual lines in one go: what a thread did by `fix`, `cons`, `get`, `put` or `show`. Nothing is
-//! looked for; what is spelled in any other way, or is no line at all, is left to the readers of
-//! fields.
+//! The usual lines in one go: what a thread did by `fix`, `cons`, `get`, `put` or `show`, and moves.
+//! Nothing is looked for; what is spelled in any other way, or is no line at all, is left to the
+//! readers of fields.
 
 ghost use Rattle.std.specs.Prelude.{◌≡◌, ◌<◌, ◌≤◌, ◌^◌, ◌++◌, true, IfSome, decimal};
 ghost use Rattle.std.specs.Fmt.{signed_decimal};
 ghost use Rattle.heap_terms.specs.Text.{cell_field, event_text, field, index_text, name_text, number_field};
 ghost use Rattle.heap_terms.specs.Valid.{IsCell, IsFixnum};
 ghost use Rattle.heap_terms.specs.declared.events.Event.TheVariants.{Did};
+ghost use Rattle.journal_text.specs.declared.parsing.pieces.Piece.TheVariants as pieces;
 ghost use Rattle.journal_text.specs.FieldReading.{is_decimal};
+ghost use Rattle.journal_text.specs.Lines.{piece_text};
 ghost use Rattle.journal_text.specs.Plain.{Acts, Answers, IsDeed};
-ghost use Rattle.journal_text.specs.Ranges.{IsIndex, IsName};
+ghost use Rattle.journal_text.specs.Ranges.{IsIndex, IsMove, IsName};
 ghost use Rattle.journal_text.specs.Rows.{may_answer};
 
 use super::rows::may_answer;
 use heap_terms::{
-    Answer, Cell, Command, Event, MOST_COMMANDS, MOST_ELEMENTS, MOST_WORDS, Refusal, Value,
+    Answer, Cell, Command, Event, MOST_COMMANDS, MOST_ELEMENTS, MOST_WORDS, Placing, Refusal, Value,
 };
 
 /// Where a number in its usual spelling may grow to another digit: below 10^17, so that no sum of
@@ -345,4 +347,19 @@ pub(crate) fn event(bytes: &[u8]) -> Option<(Event, &[u8])>
         b's' => show(thread, rest),
         _ => None,
     }
+}
+
+/// A move at the front, and the bytes behind its line.
+#[inline(always)]
+pub(crate) fn moved(bytes: &[u8]) -> Option<(Placing, &[u8])>
+    ensures text { IfSome result (λ f. bytes.now ≡ piece_text (pieces.Move f.0) ++ f.1.now) }
+    ensures within { IfSome result (λ f. IsMove f.0) }
+{
+    let rest = behind(bytes, b"move")?;
+    let (name, rest) = name(rest)?;
+    let (old, rest) = index(rest)?;
+    let (new, rest) = index(rest)?;
+    let after = behind(rest, b"\n")?;
+    let new = Some(new);
+    Some((Placing { name, old, new }, after))
 }

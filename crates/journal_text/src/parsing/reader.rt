@@ -288,7 +288,26 @@ impl Reader {
         }
     }
 
-    /// The same; a line in its usual spelling is read in one go.
+    /// The same; a move in its usual spelling is read in one go.
+    #[inline(always)]
+    fn take_move<'a>(
+        &mut self,
+        alloc: Global,
+        bytes: &'a [u8],
+    ) -> Result<Option<&'a [u8]>, LineFault>
+        ensures taken { IfOk result (λ left. MatchOption left (HasNoLf bytes.now × (self.new ≡ self.old)) (λ after. TakesLine self.old bytes.now after.now self.new)) }
+        ensures stopped { IfErr result (λ fault. StopsAt self.old bytes.now self.new fault) }
+    {
+        let Some((placing, after)) = plain::moved(bytes) else {
+            return self.take_any_line(alloc, bytes);
+        };
+        match self.moved(placing) {
+            Ok(()) => Ok(Some(after)),
+            Err(fault) => Err(fault),
+        }
+    }
+
+    /// The same; an event in its usual spelling is read in one go too.
     #[inline(always)]
     pub(crate) fn take_line<'a>(
         &mut self,
@@ -299,7 +318,7 @@ impl Reader {
         ensures stopped { IfErr result (λ fault. StopsAt self.old bytes.now self.new fault) }
     {
         let Some((event, after)) = plain::event(bytes) else {
-            return self.take_any_line(alloc, bytes);
+            return self.take_move(alloc, bytes);
         };
         match self.event(alloc, event) {
             Ok(()) => Ok(Some(after)),

@@ -1,0 +1,17 @@
+pub mod Starts
+pub mod Noting
+pub mod Carrying
+pub mod Pointers
+pub mod Broken
+pub mod BreakingLoop
+pub mod TableSlots
+pub mod TablesNow
+pub mod Pairs
+pub mod Clearing
+pub mod Culled
+pub mod CulledNotes
+pub mod Readies
+pub mod Midways
+pub mod TableReady
+pub mod Ends
+pub mod Noted

@@ -1,0 +1,7 @@
+pub mod Listed
+pub mod Places
+pub mod Rewriting
+pub mod Breaking
+pub mod Tables
+pub mod Culling
+pub mod Readying

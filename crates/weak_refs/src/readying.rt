@@ -1,0 +1,145 @@
+//! Readying: the sides of pairs that the weakness of their table keeps are settled.
+
+ghost use Rattle.std.specs.Prelude.{◌≡◌, ℕ, ◌*◌, ◌<◌, length, true, false};
+ghost use Rattle.heap_terms.specs.Heap.{NamedHeap};
+ghost use Rattle.heap_terms.specs.Layout.{weakness_number};
+ghost use Rattle.heap_terms.specs.Live.{is_live, KeepsSides};
+ghost use Rattle.heap_terms.specs.declared.cells.Value.{Value};
+ghost use Rattle.heap_terms.specs.declared.kinds.Weakness.{Weakness};
+ghost use Rattle.copy_space.specs.Settled.{is_settled, IsWordOf};
+ghost use Rattle.copy_space.specs.State.{state};
+ghost use Rattle.scavenge.specs.Fields.{IsSameCopier};
+ghost use Rattle.weak_refs.specs.Readying.{AreReady, CanFollow, CanReady, CanReadyAt, CanReadyPair, CanReadyTable, CanSettleSide, HasSameMoves, IsReadyAt, Readies};
+
+use crate::places::kind_at;
+use crate::tables::{PAIRS, WEAKNESS, pair_count};
+use copy_space::Copier;
+use heap_terms::{Kind, Weakness};
+use pin_set::PinSet;
+
+/// Settles the sides that the weakness of a table keeps: both of a strong table, the value of a
+/// table by key where the key is settled, the key of one by value where the value is, and each side
+/// of one by key or value where the other is. A side that is no reference counts as settled. The
+/// answer says whether something was settled; where it is false, each pair of each table has what
+/// its weakness keeps. `weak` has the starts at which settled weak pointers and tables stand now. It
+/// takes no memory.
+pub fn ready_entries(weak: &PinSet, copier: &mut Copier) -> bool
+    ghost a: { NamedHeap }
+    requires { CanReady a (state copier.old) weak.now.listed }
+    ensures readies { Readies a (state copier.old) (state copier.new) }
+    ensures grew { result ≡ true → length (state copier.old).moves < length (state copier.new).moves }
+    ensures stayed { result ≡ false → HasSameMoves (state copier.old) (state copier.new) }
+    ensures ready { result ≡ false → AreReady a (state copier.new) weak.now.listed (length weak.now.listed) }
+    ensures same { IsSameCopier copier.old copier.new }
+{
+    let before = copier.notes().moves.len();
+    ready_all(weak, copier);
+    copier.notes().moves.len() > before
+}
+
+/// Goes through all tables.
+fn ready_all(weak: &PinSet, copier: &mut Copier)
+    ghost a: { NamedHeap }
+    requires { CanReady a (state copier.old) weak.now.listed }
+    ensures readies { Readies a (state copier.old) (state copier.new) }
+    ensures ready { HasSameMoves (state copier.old) (state copier.new) → AreReady a (state copier.new) weak.now.listed (length weak.now.listed) }
+    ensures same { IsSameCopier copier.old copier.new }
+{
+    for i in 0..weak.len() {
+        ready_at(copier, weak.at(i));
+    }
+}
+
+/// Goes through the pairs of what stands at a start, if it is a table.
+fn ready_at(copier: &mut Copier, start: u32)
+    ghost a: { NamedHeap }
+    requires { CanReadyAt a (state copier.old) start }
+    ensures readies { Readies a (state copier.old) (state copier.new) }
+    ensures ready { HasSameMoves (state copier.old) (state copier.new) → IsReadyAt a (state copier.new) start }
+    ensures same { IsSameCopier copier.old copier.new }
+{
+    match kind_at(copier.space(), start) {
+        Kind::Table => ready_table(copier, start),
+        _ => {}
+    }
+}
+
+/// Goes through the pairs of the table at a start.
+fn ready_table(copier: &mut Copier, start: u32)
+    ghost a: { NamedHeap }
+    requires { CanReadyTable a (state copier.old) start }
+    ensures readies { Readies a (state copier.old) (state copier.new) }
+    ensures ready { HasSameMoves (state copier.old) (state copier.new) → IsReadyAt a (state copier.new) start }
+    ensures same { IsSameCopier copier.old copier.new }
+{
+    let weakness = weakness_from(copier.space().read(start + WEAKNESS));
+    let count = pair_count(copier, start);
+    for pair in 0..count {
+        let key = copier.space().read(start + PAIRS + 2 * pair);
+        let value = copier.space().read(start + PAIRS + 2 * pair + 1);
+        ready_pair(copier, weakness, key, value);
+    }
+}
+
+/// The weakness of a table, from the word that stands for it.
+fn weakness_from(word: u64) -> Weakness
+    ensures { (w : Weakness) → word ≡ 2 * weakness_number w → result ≡ w }
+{
+    match word {
+        0 => Weakness::Strong,
+        2 => Weakness::Key,
+        4 => Weakness::Value,
+        6 => Weakness::KeyAndValue,
+        _ => Weakness::KeyOrValue,
+    }
+}
+
+/// Settles of a pair, given by the words of key and value, what a weakness keeps.
+fn ready_pair(copier: &mut Copier, weakness: Weakness, key: u64, value: u64)
+    ghost a: { NamedHeap }
+    requires { CanReadyPair a (state copier.old) weakness key value }
+    ensures readies { Readies a (state copier.old) (state copier.new) }
+    ensures ready { (u v : Value) → IsWordOf a (state copier.old) u key → IsWordOf a (state copier.old) v value → HasSameMoves (state copier.old) (state copier.new) →
+        KeepsSides weakness (is_live (is_settled a (state copier.new)) u) (is_live (is_settled a (state copier.new)) v) }
+    ensures same { IsSameCopier copier.old copier.new }
+{
+    match weakness {
+        Weakness::Strong => {
+            settle_side(copier, key);
+            settle_side(copier, value);
+        }
+        Weakness::Key => follow(copier, key, value),
+        Weakness::Value => follow(copier, value, key),
+        Weakness::KeyAndValue => {}
+        Weakness::KeyOrValue => {
+            follow(copier, key, value);
+            follow(copier, value, key);
+        }
+    }
+}
+
+/// Settles a side where another one is settled.
+fn follow(copier: &mut Copier, other: u64, side: u64)
+    ghost a: { NamedHeap }
+    requires { CanFollow a (state copier.old) other side }
+    ensures readies { Readies a (state copier.old) (state copier.new) }
+    ensures ready { (u v : Value) → IsWordOf a (state copier.old) u other → IsWordOf a (state copier.old) v side → HasSameMoves (state copier.old) (state copier.new) →
+        is_live (is_settled a (state copier.new)) u ≡ true → is_live (is_settled a (state copier.new)) v ≡ true }
+    ensures same { IsSameCopier copier.old copier.new }
+{
+    if copier.is_placed(other) {
+        settle_side(copier, side);
+    }
+}
+
+/// Settles a side. Its word stays the one before the pass until tables are culled.
+#[inline(always)]
+fn settle_side(copier: &mut Copier, side: u64)
+    ghost a: { NamedHeap }
+    requires { CanSettleSide a (state copier.old) side }
+    ensures readies { Readies a (state copier.old) (state copier.new) }
+    ensures settled { (v : Value) → IsWordOf a (state copier.old) v side → is_live (is_settled a (state copier.new)) v ≡ true }
+    ensures same { IsSameCopier copier.old copier.new }
+{
+    copier.evacuate(side);
+}
