@@ -3,6 +3,7 @@
 ghost use Rattle.std.specs.Prelude.{◌≤◌};
 
 mod collections;
+mod generations;
 
 use crate::still::lispheap_still;
 use heap_io::{MemorySink, MemorySource};
