@@ -84,7 +84,7 @@ answer_told answers.Broken h = tt
 answer_told (answers.Count n) h = absurd h
 answer_told (answers.Ran ids) h = absurd h
 answer_told (answers.Page view) h = page_told view h
-answer_told (answers.Stat allocated cum num) h = absurd h
+answer_told (answers.Stat allocated cum num) h = h
 answer_told (answers.Placed name index) h = h
 answer_told (answers.Refused why) h = tt
 
