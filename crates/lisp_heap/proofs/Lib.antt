@@ -45,3 +45,4 @@ pub mod CollectingWith
 pub mod PageReading
 pub mod PageViewing
 pub mod DueNext
+pub mod KeptThere

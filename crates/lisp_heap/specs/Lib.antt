@@ -18,3 +18,5 @@ pub mod Rooting
 pub mod Recording
 pub mod Collecting
 pub mod ParcelSound
+pub mod Kept
+pub mod Counted

@@ -13,6 +13,7 @@ mod committing;
 mod due;
 mod field_commands;
 mod inhibit_commands;
+mod kept;
 mod new_world;
 mod one_pass;
 mod page_commands;
