@@ -46,3 +46,4 @@ pub mod PageReading
 pub mod PageViewing
 pub mod DueNext
 pub mod KeptThere
+pub mod CountedThere

@@ -20,3 +20,4 @@ pub mod Collecting
 pub mod ParcelSound
 pub mod Kept
 pub mod Counted
+pub mod AllPasses

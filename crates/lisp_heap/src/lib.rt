@@ -4,6 +4,7 @@
 #![tactic(auto)]
 
 mod agreement;
+mod all_passes;
 mod allocating;
 mod cell_commands;
 mod cells;
