@@ -47,3 +47,5 @@ pub mod PageViewing
 pub mod DueNext
 pub mod KeptThere
 pub mod CountedThere
+pub mod NextPass
+pub mod PassesSoFar

@@ -1,10 +1,11 @@
 //! All passes of a collection over the fields of a World.
 
-ghost use Rattle.std.specs.Prelude.{◌≡◌, ◌+◌, ◌<◌, ◌≤◌, [], Some, length, vec_len, vec_capacity};
+ghost use Rattle.std.specs.Prelude.{◌≡◌, ◌+◌, ◌<◌, ◌≤◌, ◌∷◌, ◌++◌, [], Some, length, vec_len, vec_capacity};
 ghost use Rattle.collect_pass.specs.Pass.{IsReservedFor};
+ghost use Rattle.heap_terms.specs.declared.events.PassRecord.{PassRecord as Record};
 ghost use Rattle.heap_terms.specs.Collections.{ArePasses};
 ghost use Rattle.trace_laws.specs.Rooted.{Rooted};
-ghost use Rattle.lisp_heap.specs.AllPasses.{AreRooms, IsPlanned, Stand};
+ghost use Rattle.lisp_heap.specs.AllPasses.{AreRooms, IsNextPass, IsStepped, Stand, StandNow};
 ghost use Rattle.lisp_heap.specs.Recording.{HasRoom};
 
 use crate::one_pass::make_counted_pass;
@@ -29,13 +30,13 @@ fn make_next(
     passes: &mut Vec<PassRecord>,
 ) -> Option<Pass>
     ghost h: { Rooted }
-    requires stand { Stand h last space.old pages.old labels.old scratch.old.roots.exact.items scratch.old.roots.ambiguous.items stats.old passes.old.items }
-    requires planned { IsPlanned h.heap last passes.old.items (Some pass) }
+    requires stand { StandNow h h.heap (length passes.old.items) space.old pages.old labels.old scratch.old.roots.exact.items scratch.old.roots.ambiguous.items stats.old }
+    requires next { IsNextPass h.heap last (length passes.old.items) pass }
     requires reserved { IsReservedFor scratch.old.room (length h.heap.pages) (length scratch.old.roots.ambiguous.items) }
     requires room { HasRoom room (length h.heap.objects) (length scratch.old.roots.ambiguous.items) (length h.heap.pages) }
     requires push { vec_len passes.old < vec_capacity passes.old }
-    ensures stand { Stand h last space.new pages.new labels.new scratch.new.roots.exact.items scratch.new.roots.ambiguous.items stats.new passes.new.items }
-    ensures planned { IsPlanned h.heap last passes.new.items result }
+    ensures stepped { (r : Record) × (passes.new.items ≡ passes.old.items ++ r ∷ [])
+        × IsStepped h last (length passes.old.items) pass space.new pages.new labels.new scratch.new.roots.exact.items scratch.new.roots.ambiguous.items stats.new r result }
     ensures ambiguous { scratch.new.roots.ambiguous.items ≡ scratch.old.roots.ambiguous.items }
     ensures room_pages { scratch.new.room.pages ≡ scratch.old.room.pages }
     ensures room_ambiguous { scratch.new.room.ambiguous ≡ scratch.old.room.ambiguous }

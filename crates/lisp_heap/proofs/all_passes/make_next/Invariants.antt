@@ -1,6 +1,5 @@
--- The pass is made over the heap after those that were made so far.
-use Rattle.heap_terms.specs.Collections.{after_passes}
+-- The pass is made over the heap as it is now.
 use Rattle.lisp_heap.proofs.all_passes.make_next.Given as goal
 
-abbrev pub ghost-make_counted_pass-made : goal.ghost-make_counted_pass-made
-ghost-make_counted_pass-made g a = record { heap = after_passes g.h.heap 0 0 []; values = g.h.values }
+abbrev pub ghost-make_counted_pass : goal.ghost-make_counted_pass
+ghost-make_counted_pass g a = g.h

@@ -2,13 +2,14 @@
 use Rattle.std.proofs.Common.{◌≡◌, ◌+◌, ◌≤◌, length, vec_len, vec_capacity}
 use Rattle.collect_pass.specs.Pass.{IsReservedFor}
 use Rattle.lisp_heap.specs.AllPasses.{AreRooms, IsPlanned, Stand}
+use Rattle.lisp_heap.proofs.PassesSoFar.{rooted_now}
 use Rattle.lisp_heap.proofs.all_passes.make_passes.Given as goal
 
 abbrev pub ghost-make_next : goal.ghost-make_next
-ghost-make_next g a = g.h
+ghost-make_next g a = rooted_now g.h a.last a.passes.now.items
 
-abbrev pub invariant-loop-pass : goal.invariant-loop-pass
-invariant-loop-pass g l = record {
+abbrev pub invariant-loop-planned : goal.invariant-loop-planned
+invariant-loop-planned g l = record {
   stand : Stand g.h l.last l.space l.pages l.labels l.scratch.roots.exact.items l.scratch.roots.ambiguous.items l.stats l.passes.items;
   planned : IsPlanned g.h.heap l.last l.passes.items l.planned;
   ambiguous : l.scratch.roots.ambiguous.items ≡ l.fn.scratch.roots.ambiguous.items;
@@ -19,5 +20,5 @@ invariant-loop-pass g l = record {
   capacity : 6 ≤ vec_capacity l.passes;
 }
 
-abbrev pub decreases-loop-pass : goal.decreases-loop-pass
-decreases-loop-pass g l = vec_len l.rooms
+abbrev pub decreases-loop-planned : goal.decreases-loop-planned
+decreases-loop-planned g l = vec_len l.rooms
