@@ -59,7 +59,7 @@ module _ (h : Rooted) (last : ℕ) (records : List PassRecord) (words : List ℕ
   }
 
   module _ (pass : Pass) (plan : IsPlanned h.heap last records (Some pass)) (words' : List ℕ) (pages' : List Entry) (labels' exact' ambiguous' : List ℕ) (stats' : GenStats) (r : PassRecord)
-      (then : Option Pass) (step : IsStepped (rooted_now h last records) last (length records) pass words' pages' labels' exact' ambiguous' stats' r then) where
+      (plan_then : Option Pass) (step : IsStepped (rooted_now h last records) last (length records) pass words' pages' labels' exact' ambiguous' stats' r plan_then) where
     abbrev b : NamedHeap
     b = after_passes h.heap last 0 records
 
@@ -67,7 +67,7 @@ module _ (h : Rooted) (last : ℕ) (records : List PassRecord) (words : List ℕ
     c = after_pass_of (after_passes h.heap last 0 records) last (length records) r
 
     heap_more : after_passes h.heap last 0 (records ++ r ∷ []) ≡ after_pass_of (after_passes h.heap last 0 records) last (length records) r
-    heap_more = after_one_more h.heap last 0 (length records) records r refl
+    heap_more = after_one_more h.heap last 0 (length records) records r (omega arith)
 
     long : length (records ++ r ∷ []) ≡ length records + 1
     long = length_push records r
@@ -93,7 +93,7 @@ module _ (h : Rooted) (last : ℕ) (records : List PassRecord) (words : List ℕ
         (subst (λ (x : NamedHeap). StandNow h x (length (records ++ r ∷ [])) words' pages' labels' exact' ambiguous' stats') (sym heap_more)
         (subst (λ (n : ℕ). StandNow h (after_pass_of (after_passes h.heap last 0 records) last (length records) r) n words' pages' labels' exact' ambiguous' stats') (sym long) relative))
 
-    then_is : then ≡ (if goes_on_after (after_passes h.heap last 0 records) last (length records) r
+    then_is : plan_then ≡ (if goes_on_after (after_passes h.heap last 0 records) last (length records) r
         then Some (pass_over (after_pass_of (after_passes h.heap last 0 records) last (length records) r) last (length records + 1)) else None)
     then_is = step.plan_is ∙ ap (λ (p : Pass). planned (after_pass_of (after_passes h.heap last 0 records) last (length records) r) last (Some p)) plan.1.is
 
@@ -109,16 +109,16 @@ module _ (h : Rooted) (last : ℕ) (records : List PassRecord) (words : List ℕ
           low = omega (arith, low);
           empty = raised_empty b last n r stand.stand.sound step.is_pass raised plan.1.empty;
         } in
-        (one_more h.heap last 0 n records r refl plan.0 step.is_pass goes,
+        (one_more h.heap last 0 n records r (omega arith) plan.0 step.is_pass goes,
         subst (λ (x : NamedHeap). IsNextPass x last (length (records ++ r ∷ [])) follows) (sym heap_more) (subst (λ (k : ℕ). IsNextPass c last k follows) (sym long) next))
 
-    pub planned_more : (all : List PassRecord) → all ≡ records ++ r ∷ [] → IsPlanned h.heap last all then
+    pub planned_more : (all : List PassRecord) → all ≡ records ++ r ∷ [] → IsPlanned h.heap last all plan_then
     planned_more all is = elim (cases_Bool (goes_on_after (after_passes h.heap last 0 records) last (length records) r)) [
       | inl goes ↦ (
-          let so : then ≡ Some (pass_over (after_pass_of (after_passes h.heap last 0 records) last (length records) r) last (length records + 1)) = rw goes at then_is in
-          subst (λ (rs : List PassRecord). IsPlanned h.heap last rs then) (sym is) (subst (IsPlanned h.heap last (records ++ r ∷ [])) (sym so) (more goes)))
+          let so : plan_then ≡ Some (pass_over (after_pass_of (after_passes h.heap last 0 records) last (length records) r) last (length records + 1)) = rw goes at then_is in
+          subst (λ (rs : List PassRecord). IsPlanned h.heap last rs plan_then) (sym is) (subst (IsPlanned h.heap last (records ++ r ∷ [])) (sym so) (more goes)))
       | inr ends ↦ (
-          let so : then ≡ None = rw ends at then_is in
-          subst (λ (rs : List PassRecord). IsPlanned h.heap last rs then) (sym is) (subst (IsPlanned h.heap last (records ++ r ∷ [])) (sym so)
-          (last_one h.heap last 0 (length records) records r refl plan.0 step.is_pass ends)))
+          let so : plan_then ≡ None = rw ends at then_is in
+          subst (λ (rs : List PassRecord). IsPlanned h.heap last rs plan_then) (sym is) (subst (IsPlanned h.heap last (records ++ r ∷ [])) (sym so)
+          (last_one h.heap last 0 (length records) records r (omega arith) plan.0 step.is_pass ends)))
     ]
