@@ -1,10 +1,14 @@
 -- When the policy's numbers are those of a heap, and which passes there are.
-use Rattle.std.specs.Prelude.{◌≡◌, ℕ, ◌*◌, ◌<◌, ◌≤◌, ◌^◌, IsTrue, slice_index}
+use Rattle.std.specs.Prelude.{◌≡◌, ℕ, ◌*◌, ◌<◌, ◌≤◌, ◌^◌, IsTrue, replicate, slice_index}
 use Rattle.copy_space.specs.declared.notes.Pass.{Pass}
 use Rattle.heap_terms.specs.declared.limits.TheConstants.{OLDEST_COLLECTED, OLDEST_GENERATION}
 use Rattle.heap_terms.specs.Generations.{allocated}
 use Rattle.heap_terms.specs.Heap.{NamedHeap}
 use Rattle.generation_policy.specs.declared.stats.GenStats.{GenStats}
+
+-- the numbers of a heap before its first event
+abbrev pub fresh_stats : GenStats
+fresh_stats = record { allocated = replicate 7 0; cum = replicate 7 0; num = replicate 7 0 }
 
 -- the numbers are those of a heap: the words of each generation's objects, and what the heap keeps of the policy
 pub record StatsStand (a : NamedHeap) (stats : GenStats) : Type 0 where

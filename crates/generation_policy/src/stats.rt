@@ -1,8 +1,9 @@
 //! The numbers that the policy keeps of each generation.
 
+ghost use Rattle.std.specs.Prelude.{◌≡◌};
 ghost use Rattle.heap_terms.specs.declared.programs.Program.{Program};
 ghost use Rattle.heap_terms.specs.Heap.{start};
-ghost use Rattle.generation_policy.specs.Numbers.{StatsStand};
+ghost use Rattle.generation_policy.specs.Numbers.{StatsStand, fresh_stats};
 
 /// The generations 0 to 6.
 pub const GENERATIONS: usize = 7;
@@ -21,7 +22,8 @@ pub struct GenStats {
 impl GenStats {
     /// The numbers of a heap before its first event: all are 0.
     pub fn new() -> GenStats
-        ensures { (p : Program) → StatsStand (start p) result }
+        ensures fresh { result ≡ fresh_stats }
+        ensures stand { (p : Program) → StatsStand (start p) result }
     {
         GenStats {
             allocated: [0; GENERATIONS],

@@ -20,7 +20,7 @@ use Rattle.lisp_heap.specs.declared.states.ThreadState.{ThreadState}
 use Rattle.lisp_heap.proofs.AmbiguousRoots.{gathered_few, gathered_hits, raws_in, stack_of}
 use Rattle.lisp_heap.proofs.ExactRoots.{exact_names, roots_living}
 use Rattle.lisp_heap.proofs.FlatCells.{HaveEach, eighth, flat_words, sixteenth}
-use Rattle.lisp_heap.proofs.Unchanged.{LabelsStand-same, WordsStand-same}
+use Rattle.lisp_heap.proofs.Unchanged.{LabelsStand-same, StatsStand-same, WordsStand-same}
 
 -- ---- what the fields stand for once all regions are closed
 
@@ -61,6 +61,9 @@ Holds-closed a v h = record {
   states = ap (map state_closed) h.states ∙ closed_states a.threads;
   pins = h.pins ∙ closed_pins a.threads;
   commits = h.commits;
+  stats = StatsStand-same a (closed a) v.stats refl refl refl h.stats;
+  counted = h.counted;
+  triggered = h.triggered;
 }
 
 -- ---- what each thread of a well-formed heap has

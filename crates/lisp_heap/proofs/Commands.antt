@@ -37,6 +37,7 @@ IsSimple (commands.Collect g) = Unit {0}
 IsSimple commands.Inhibit = Unit {0}
 IsSimple commands.Allow = Unit {0}
 IsSimple (commands.ShowPage p) = Unit {0}
+IsSimple (commands.Stat g) = Unit {0}
 IsSimple _ = ⊥
 
 simple : (c : Command) → IsBuilt c → wish_of c ≡ Nothing → IsSimple c
@@ -63,6 +64,7 @@ simple (commands.Collect g) built wish = tt
 simple commands.Inhibit built wish = tt
 simple commands.Allow built wish = tt
 simple (commands.ShowPage p) built wish = tt
+simple (commands.Stat g) built wish = tt
 simple _ built wish = absurd built
 
 -- what a thread does that allocates nothing is one of these

@@ -22,7 +22,7 @@ use Rattle.lisp_heap.specs.State.{state_of, fresh_state, with_ended}
 use Rattle.lisp_heap.specs.declared.states.ThreadState.{ThreadState}
 use Rattle.lisp_heap.proofs.Agreeing.{Agrees-same}
 use Rattle.lisp_heap.proofs.Threads.{thread_at-same, thread_at-other}
-use Rattle.lisp_heap.proofs.Unchanged.{WordsStand-same, LabelsStand-same, state_read, states_set, pins_set}
+use Rattle.lisp_heap.proofs.Unchanged.{WordsStand-same, LabelsStand-same, StatsStand-same, state_read, states_set, pins_set}
 
 -- ---- a list with a part replaced
 
@@ -173,6 +173,9 @@ Holds-ended a v t ht holds =
       states = states_set a v.states t th state holds.states same;
       pins = pins_set a v.pins t th [] holds.pins refl;
       commits = holds.commits;
+      stats = StatsStand-same a (with_thread a t th) v.stats refl refl refl holds.stats;
+      counted = holds.counted;
+      triggered = holds.triggered;
     }
 
 pub after_end_holds : (p : Program) (a : NamedHeap) (v : Parts) (t : ℕ) → t < length a.threads → Holds a v →

@@ -23,6 +23,7 @@ pub mod ParcelParts
 pub mod RegionLemmas
 pub mod Lending
 pub mod Filling
+pub mod CountedWords
 pub mod PlacingLemmas
 pub mod PlacingAgrees
 pub mod Accepting
@@ -44,6 +45,7 @@ pub mod MakingPass
 pub mod CollectingWith
 pub mod PageReading
 pub mod PageViewing
+pub mod StatTelling
 pub mod DueNext
 pub mod KeptThere
 pub mod CountedThere

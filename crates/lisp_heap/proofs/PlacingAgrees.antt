@@ -16,7 +16,7 @@ use Rattle.heap_terms.specs.Heap.{NamedHeap, Thread, thread_at, entry_at, fill_o
 use Rattle.heap_terms.specs.Histories.{after, next}
 use Rattle.heap_terms.specs.Layout.{page_words, page_type_of, size_of}
 use Rattle.heap_terms.specs.Objects.{words_of_object}
-use Rattle.heap_terms.specs.Regions.{is_small, pages_after, run_used, with_large}
+use Rattle.heap_terms.specs.Regions.{counting, is_small, pages_after, run_used, with_large}
 use Rattle.heap_terms.specs.WellFormed.{IsWellFormed, IsOpenRunPage}
 use Rattle.heap_laws.proofs.Allocating.{HasPage, has_page, large_run, goes_into, new_object, initial_kind, initial_payload, open_page_same, pages_large, pages_small}
 use Rattle.heap_laws.proofs.SoundHeaps.{open_page_used, open_run_used}
@@ -28,6 +28,7 @@ use Rattle.lisp_heap.specs.declared.parcels.RegionPlace.{RegionPlace}
 use Rattle.lisp_heap.specs.declared.states.ThreadState.{ThreadState}
 use Rattle.lisp_heap.specs.declared.world.World.TheInside.{Inside}
 use Rattle.lisp_heap.proofs.Agreeing.{Agrees-thread}
+use Rattle.lisp_heap.proofs.CountedWords.{counting-agrees}
 use Rattle.lisp_heap.proofs.Nexts.{lies_on, open_page_below, small_on, state_page_is}
 use Rattle.lisp_heap.proofs.ParcelParts.{agrees_from, run_small, run_stays, small_other, small_owner, small_run, small_same, small_stays, types_cases}
 use Rattle.lisp_heap.proofs.PlacingLemmas.{Commits, celled, has_space, own_state, pages_are, placed_after}
@@ -178,4 +179,5 @@ module _ (s : Inside) (h : IsSound s) (t : ℕ) (c : Command) (d : Cell) (index 
       let new = with_accepted q kind n in
       subst (λ (x : Next). Agrees (after s.program a (Did t c (answers.Placed (length a.objects) index))) (accepted_for x q)) (sym f.told.builds)
       (subst (λ (x : NamedHeap). Agrees x new) (sym (placed_after s h t c d index kind n f))
-      (Agrees-thread b t (record (thread_at b t) { done = (thread_at b t).done + 1 }) new refl refl refl refl (accepted_agrees q owner agrees)))
+      (Agrees-thread (counting s.program b t size) t (record (thread_at (counting s.program b t size) t) { done = (thread_at (counting s.program b t size) t).done + 1 }) new
+      refl refl refl refl (counting-agrees s.program b t size new (accepted_agrees q owner agrees))))

@@ -1,7 +1,7 @@
 -- An object is committed.
-use Rattle.std.proofs.Common.{◌≡◌, ℕ, ◌+◌, ◌*◌, ◌/◌, ◌<◌, ◌≤◌, ◌^◌, List, [], ◌∷◌, ◌++◌, length, map, subst, ap, ◌∙◌, sym, refl, arith, Option, Some, None, Bool, true, false, get_or, set, length-append, length-set, ◌⊎◌}
+use Rattle.std.proofs.Common.{◌≡◌, ℕ, ◌+◌, ◌*◌, ◌/◌, ◌<◌, ◌≤◌, ◌^◌, List, [], ◌∷◌, ◌++◌, length, map, subst, ap, ap₂, ◌∙◌, sym, refl, arith, Option, Some, None, Bool, true, false, get_or, set, length-append, length-set, ◌⊎◌}
 use Rattle.std.proofs.lemmas.List.{get_or_push, set-set}
-use Rattle.std.specs.Prelude.{if◌then◌else◌}
+use Rattle.std.specs.Prelude.{if◌then◌else◌, ◌==◌, slice_index}
 use Rattle.heap_terms.specs.declared.answers.Answer.TheVariants as answers
 use Rattle.heap_terms.specs.declared.cells.Cell.{Cell}
 use Rattle.heap_terms.specs.declared.cells.Value.{Value}
@@ -14,22 +14,27 @@ use Rattle.heap_terms.specs.declared.kinds.Kind.{Kind}
 use Rattle.heap_terms.specs.declared.pages.Entry.{Entry}
 use Rattle.heap_terms.specs.declared.pages.Next.{Next}
 use Rattle.heap_terms.specs.Cells.{with_cell}
+use Rattle.heap_terms.specs.Generations.{allocated}
 use Rattle.heap_terms.specs.Heap.{NamedHeap, Thread, thread_at, with_thread, entry_at, fill_of, zero_value}
 use Rattle.heap_terms.specs.Histories.{IsNext, IsAnswer, after, after_command, advance}
 use Rattle.heap_terms.specs.Layout.{page_words, reference_word, size_of}
 use Rattle.heap_terms.specs.Living.{IsLiving, HoldsLiving}
 use Rattle.heap_terms.specs.Objects.{Object, kind_of, words_of_object}
-use Rattle.heap_terms.specs.Regions.{committed, destination_of, has_room, initial_contents, is_small, pages_after, place_for, run_used, with_destination}
+use Rattle.heap_terms.specs.Regions.{committed, counting, destination_of, has_room, initial_contents, is_small, pages_after, place_for, run_used, with_destination}
 use Rattle.heap_terms.specs.Spelling.{spelling, word_of, word_of_object}
 use Rattle.heap_terms.specs.Stands.{WordsStand}
 use Rattle.heap_terms.specs.Valid.{IsCell, IsInRange}
 use Rattle.heap_terms.specs.WellFormed.{IsWellFormed, IsPlaced, BelongsTo}
-use Rattle.heap_laws.proofs.Allocating.{new_object, initial_kind, initial_payload, initial_living, counting-off, size_least}
-use Rattle.heap_laws.proofs.SoundHeaps.{commits_few, after-well_formed}
+use Rattle.heap_laws.proofs.Allocating.{new_object, initial_kind, initial_payload, initial_living, size_least}
+use Rattle.heap_laws.proofs.SoundHeaps.{commits_few, after-well_formed, committed-allocated, replay-numbers}
+use Rattle.heap_laws.specs.Numbers.{HasNumbers, most_passes}
 use Rattle.heap_laws.proofs.ValidScripts.{script_command}
 use Rattle.word_space.specs.Space.{written}
+use Rattle.generation_policy.specs.Numbers.{StatsStand}
+use Rattle.generation_policy.specs.declared.stats.GenStats.{GenStats}
 use Rattle.lisp_heap.specs.CellsView.{with_cell_word}
 use Rattle.lisp_heap.specs.Commits.{CanFill, IsCommit, pages_filled}
+use Rattle.lisp_heap.specs.Counting.{HasMore, counted_after, states_counted, triggered_after}
 use Rattle.lisp_heap.specs.Parts.{Parts}
 use Rattle.lisp_heap.specs.Standing.{Holds, CellsStand, LabelsStand, pins_of}
 use Rattle.lisp_heap.specs.State.{state_of, state_placed, with_placed, fresh_state}
@@ -40,11 +45,12 @@ use Rattle.lisp_heap.specs.declared.world.World.TheInside.{Inside}
 use Rattle.lisp_heap.proofs.Agreeing.{states_at}
 use Rattle.lisp_heap.proofs.CellLemmas.{CellsStand-with_thread, CellsStand-with_cell, CellsStand-objects}
 use Rattle.lisp_heap.proofs.CommitLemmas.{WordsStand-commit, LabelsStand-commit, new_placed, room}
+use Rattle.lisp_heap.proofs.CountedWords.{CellsStand-counting, IsSameBut, counting-counted, counting-same, counting-states, counting-triggered}
 use Rattle.lisp_heap.proofs.Filling.{Fills, fills}
 use Rattle.lisp_heap.proofs.ObjectLemmas.{word_of-push}
 use Rattle.lisp_heap.proofs.Soundness.{heap, well_formed}
 use Rattle.lisp_heap.proofs.Threads.{thread_at-same}
-use Rattle.lisp_heap.proofs.Unchanged.{with_cell-objects, with_cell-pages, with_cell-states, with_cell-pins, with_thread-pins, state_read, states_set}
+use Rattle.lisp_heap.proofs.Unchanged.{HasSameNumbers, with_cell-numbers, with_cell-threads, with_cell-objects, with_cell-pages, with_cell-states, with_cell-pins, with_thread-pins, state_read, states_set}
 use Rattle.lisp_heap.proofs.Wanted.{builds_wish, making_most, size_most, wish_making}
 
 -- what a commit is told, of the World as it was looked into
@@ -159,14 +165,19 @@ module _ (s : Inside) (h : IsSound s) (t : ℕ) (c : Command) (d : Cell) (index 
   abbrev pub celled : NamedHeap
   celled = with_cell pushed t d (values.Ref (length a.objects))
 
-  abbrev placed_heap : NamedHeap
-  placed_heap = advance celled t
+  -- its words are counted, and the thread is one command further
+  abbrev pub counted_heap : NamedHeap
+  counted_heap = counting s.program celled t size
 
-  committed_is : committed s.program a t c kind n ≡ celled
+  abbrev placed_heap : NamedHeap
+  placed_heap = advance counted_heap t
+
+  committed_is : committed s.program a t c kind n ≡ counted_heap
   unfolding committed
-  committed_is =
-      counting-off s.program (with_destination pushed t _ (values.Ref (length a.objects))) t size h.valid.auto
-      ∙ ap (λ (o : Option Cell). with_destination pushed t o (values.Ref (length a.objects))) f.told.destination
+  committed_is = ap (λ (o : Option Cell). counting s.program (with_destination pushed t o (values.Ref (length a.objects))) t size) f.told.destination
+
+  same_but : IsSameBut s.program celled t size
+  same_but = counting-same s.program celled t size
 
   pub placed_after : after s.program a event ≡ placed_heap
   unfolding after
@@ -176,13 +187,16 @@ module _ (s : Inside) (h : IsSound s) (t : ℕ) (c : Command) (d : Cell) (index 
   placed_well_formed = subst (λ (b : NamedHeap). IsWellFormed s.program b) placed_after (after-well_formed s.program h.valid a event placed_next wf)
 
   objects_are : placed_heap.objects ≡ new_objects
-  objects_are = with_cell-objects pushed t d (values.Ref (length a.objects))
+  objects_are = same_but.objects ∙ with_cell-objects pushed t d (values.Ref (length a.objects))
 
   pub pages_are : celled.pages ≡ pages_after a t kind size
   pages_are = with_cell-pages pushed t d (values.Ref (length a.objects))
 
+  pages_now : placed_heap.pages ≡ pages_after a t kind size
+  pages_now = same_but.pages ∙ pages_are
+
   pages_long : length placed_heap.pages ≡ length a.pages
-  pages_long = ap length pages_are ∙ where_it_goes.lengths
+  pages_long = ap length pages_now ∙ where_it_goes.lengths
 
   kind_is : kind_of object.contents ≡ kind
   kind_is = initial_kind a t c kind n f.told.seed f.told.wish
@@ -191,7 +205,7 @@ module _ (s : Inside) (h : IsSound s) (t : ℕ) (c : Command) (d : Cell) (index 
   words_are = rw (kind_is, initial_payload a t c kind n f.told.seed f.told.wish) refl
 
   filled : (page i : ℕ) → i < fill_of (entry_at placed_heap.pages page) → (i < fill_of (entry_at a.pages page)) ⊎ BelongsTo (page_words * page + i) object
-  filled page i l = where_it_goes.filled object refl words_are page i (subst (λ (ps : List Entry). i < fill_of (entry_at ps page)) pages_are l)
+  filled page i l = where_it_goes.filled object refl words_are page i (subst (λ (ps : List Entry). i < fill_of (entry_at ps page)) pages_now l)
 
   living : HoldsLiving a.objects object.contents
   living = initial_living s.program a t c wf f.lt
@@ -236,7 +250,7 @@ module _ (s : Inside) (h : IsSound s) (t : ℕ) (c : Command) (d : Cell) (index 
   pages_stand : pages_filled s.pages index size ≡ placed_heap.pages
   pages_stand =
       ap (λ (ps : List Entry). pages_filled ps index size) h.holds.pages
-      ∙ ap (λ (x : ℕ). pages_filled a.pages x size) f.told.place ∙ where_it_goes.pages_are ∙ sym pages_are
+      ∙ ap (λ (x : ℕ). pages_filled a.pages x size) f.told.place ∙ where_it_goes.pages_are ∙ sym pages_now
 
   reference_is : word_of new_objects (values.Ref (length a.objects)) ≡ reference_word index kind
   reference_is =
@@ -271,16 +285,17 @@ module _ (s : Inside) (h : IsSound s) (t : ℕ) (c : Command) (d : Cell) (index 
       (ap (λ (x : Thread). length x.stack) own ∙ ap length (used_stack (thread_at a t) size) ∙ th.stack_length)
       (ap (λ (x : Thread). length x.exact) own ∙ ap length (used_exact (thread_at a t) size) ∙ th.exact_length)
       wf.shared_length (sym reference_is) on_pushed in
-      CellsStand-with_thread celled t (record (thread_at celled t) { done = (thread_at celled t).done + 1 })
-      (with_cell_word s.cells t d (reference_word index kind)) refl refl refl on_celled
+      CellsStand-with_thread counted_heap t (record (thread_at counted_heap t) { done = (thread_at counted_heap t).done + 1 })
+      (with_cell_word s.cells t d (reference_word index kind)) refl refl refl
+      (CellsStand-counting s.program celled t size (with_cell_word s.cells t d (reference_word index kind)) on_celled)
 
   -- the own state, but for its place in the script
   pub own_state : state_of (thread_at celled t) ≡ state_of (run_used (thread_at a t) size)
   own_state = states_at pushed celled t (with_cell-states pushed t d (values.Ref (length a.objects)))
       ∙ ap state_of (thread_at-same a t (run_used (thread_at a t) size) below)
 
-  states_stand : with_placed s.states t size ≡ map state_of placed_heap.threads
-  states_stand =
+  states_moved : with_placed s.states t size ≡ map state_of (advance celled t).threads
+  states_moved =
       let th = thread_at a t in
       let here : get_or s.states t fresh_state ≡ state_of th = state_read a s.states t fresh_state h.holds.states below in
       let used : set s.states t (state_of (run_used th size)) ≡ map state_of celled.threads =
@@ -294,28 +309,86 @@ module _ (s : Inside) (h : IsSound s) (t : ℕ) (c : Command) (d : Cell) (index 
       ∙ states_set celled (set s.states t (state_of (run_used th size))) t (record (thread_at celled t) { done = (thread_at celled t).done + 1 })
       (state_placed (get_or s.states t fresh_state) size) used moved
 
+  numbers : HasSameNumbers pushed celled
+  numbers = with_cell-numbers pushed t d (values.Ref (length a.objects))
+
+  counted_is : s.counted ≡ celled.counted
+  counted_is = h.holds.counted ∙ sym numbers.counted
+
+  triggered_is : s.triggered ≡ celled.triggered
+  triggered_is = h.holds.triggered ∙ sym numbers.triggered
+
+  states_stand : states_counted s.program.auto s.counted s.triggered (with_placed s.states t size) t size ≡ map state_of placed_heap.threads
+  states_stand =
+      ap₂ (λ (x y : ℕ). states_counted s.program.auto x y (with_placed s.states t size) t size) counted_is triggered_is
+      ∙ counting-states s.program celled t size (with_placed s.states t size) celled_there states_moved
+    where
+      celled_there : t < length celled.threads
+      celled_there = omega (arith, below, length-set a.threads t (run_used (thread_at a t) size), with_cell-threads pushed t d (values.Ref (length a.objects)))
+
+  counted_stands : counted_after s.program.auto s.counted s.triggered size ≡ placed_heap.counted
+  counted_stands = ap₂ (λ (x y : ℕ). counted_after s.program.auto x y size) counted_is triggered_is ∙ counting-counted s.program celled t size
+
+  triggered_stands : triggered_after s.program.auto s.counted s.triggered size ≡ placed_heap.triggered
+  triggered_stands = ap₂ (λ (x y : ℕ). triggered_after s.program.auto x y size) counted_is triggered_is ∙ counting-triggered s.program celled t size
+
+  stats_stand : (stats : GenStats) → HasMore s.stats stats size → StatsStand placed_heap stats
+  stats_stand stats more = record {
+    allocated_is = λ g low. more.words g low ∙ ap (λ (k : ℕ). k + (if 0 == g then size else 0)) (h.holds.stats.allocated_is g low)
+        ∙ sym (committed-allocated s.program a t c kind n f.told.seed g f.told.wish) ∙ ap (λ (b : NamedHeap). allocated b g) committed_is;
+    cum_is = more.cum ∙ h.holds.stats.cum_is ∙ sym numbers.cum ∙ sym same_but.cum;
+    num_is = more.num ∙ h.holds.stats.num_is ∙ sym numbers.num ∙ sym same_but.num;
+  }
+
+  -- what the counts have room for
+  few : HasNumbers a most_passes
+  few = replay-numbers s.program s.history.items h.valid h.lawful
+
+  size_few : size ≤ 65536
+  size_few = size_most kind n payload_most
+
+  pub few_words : slice_index s.stats.allocated 0 + size < 2 ^ 64
+  few_words = omega (arith, h.holds.stats.allocated_is 0 (omega arith), few.words 0, size_few)
+
+  pub few_counted : s.counted + size < 2 ^ 64
+  few_counted = omega (arith, h.holds.counted, few.counted, size_few)
+
   pins_stand : s.pins ≡ map pins_of placed_heap.threads
   pins_stand =
       h.holds.pins ∙ sym (with_thread-pins a t (run_used (thread_at a t) size) (used_pins (thread_at a t) size))
       ∙ sym (with_cell-pins pushed t d (values.Ref (length a.objects)))
-      ∙ sym (with_thread-pins celled t (record (thread_at celled t) { done = (thread_at celled t).done + 1 }) refl)
+      ∙ sym same_but.pins
+      ∙ sym (with_thread-pins counted_heap t (record (thread_at counted_heap t) { done = (thread_at counted_heap t).done + 1 }) refl)
 
   commits_stand : s.commits + 1 ≡ length placed_heap.objects
   commits_stand =
       let grown : length new_objects ≡ length a.objects + 1 = length-append a.objects (Some object ∷ []) in
       omega (arith, h.holds.commits, grown, ap length objects_are)
 
-  abbrev pub parts_now : Parts
-  parts_now = record {
+  abbrev pub parts_now : GenStats → Parts
+  parts_now stats = record {
     words = written s.space index (spelling a.objects (initial_contents a t c));
     pages = pages_filled s.pages index size;
     labels = set s.labels (index / 2) (length a.objects);
     cells = with_cell_word s.cells t d (reference_word index kind);
-    states = with_placed s.states t size;
+    states = states_counted s.program.auto s.counted s.triggered (with_placed s.states t size) t size;
     pins = s.pins;
     commits = s.commits + 1;
+    stats = stats;
+    counted = counted_after s.program.auto s.counted s.triggered size;
+    triggered = triggered_after s.program.auto s.counted s.triggered size;
   }
 
-  pub placed_holds : Holds (after s.program a event) parts_now
-  placed_holds = subst (λ (b : NamedHeap). Holds b parts_now) (sym placed_after)
-      (record { words = words_stand; pages = pages_stand; labels = labels_stand; cells = cells_stand; states = states_stand; pins = pins_stand; commits = commits_stand })
+  pub placed_holds : (stats : GenStats) → HasMore s.stats stats size → Holds (after s.program a event) (parts_now stats)
+  placed_holds stats more = subst (λ (b : NamedHeap). Holds b (parts_now stats)) (sym placed_after) (record {
+    words = words_stand;
+    pages = pages_stand;
+    labels = labels_stand;
+    cells = cells_stand;
+    states = states_stand;
+    pins = pins_stand;
+    commits = commits_stand;
+    stats = stats_stand stats more;
+    counted = counted_stands;
+    triggered = triggered_stands;
+  })

@@ -24,7 +24,7 @@ use Rattle.lisp_heap.proofs.CellLemmas.{CellsStand-with_thread}
 use Rattle.lisp_heap.proofs.ParcelParts.{agrees_from, page_other, page_run, page_same, page_state, run_pages, run_small, run_stays, small_other, small_owner, small_run, small_same, small_stays, types_cases}
 use Rattle.lisp_heap.proofs.Soundness.{heap, well_formed}
 use Rattle.lisp_heap.proofs.Threads.{thread_at-same}
-use Rattle.lisp_heap.proofs.Unchanged.{state_read, states_set, with_thread-pins}
+use Rattle.lisp_heap.proofs.Unchanged.{StatsStand-same, state_read, states_set, with_thread-pins}
 
 -- a page that was taken holds nothing
 none_below : (i : ℕ) → i < 0 → ⊥
@@ -120,6 +120,9 @@ module _ (s : Inside) (h : IsSound s) (t : ℕ) (ty : PageType) (first k : ℕ) 
             (ap (λ (x : ThreadState). state_with_region x ty first k) state_here ∙ region_state (thread_at a t) ty first k);
         pins = h.holds.pins ∙ sym (with_thread-pins a t opened_thread same.pins);
         commits = h.holds.commits;
+        stats = StatsStand-same a opened_heap s.stats refl refl refl h.holds.stats;
+        counted = h.holds.counted;
+        triggered = h.holds.triggered;
       }
 
   pub opened_holds : Holds (after s.program (heap s) (Opened t ty first k))

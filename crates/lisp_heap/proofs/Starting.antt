@@ -13,6 +13,7 @@ use Rattle.heap_terms.specs.Stands.{WordsStand}
 use Rattle.heap_terms.specs.Valid.{IsValid}
 use Rattle.heap_terms.specs.Spelling.{word_of}
 use Rattle.heap_laws.proofs.SoundHeaps.{start_thread_is, start_free}
+use Rattle.generation_policy.specs.Numbers.{StatsStand, fresh_stats}
 use Rattle.lisp_heap.specs.CellsView.{spot, raw_spot, zero_cells}
 use Rattle.lisp_heap.specs.WorldSound.{IsSound, parts_of}
 use Rattle.lisp_heap.specs.Parts.{page_labels, fresh_parts}
@@ -105,6 +106,21 @@ start_commits : (p : Program) → 0 ≡ length (start p).objects
 unfolding start
 start_commits p = refl
 
+start_stats : (p : Program) → StatsStand (start p) fresh_stats
+unfolding start
+start_stats p = record { allocated_is = λ g low. zeros g (omega arith); cum_is = refl; num_is = refl }
+  where
+    zeros : (g : ℕ) → g < 7 → get_or {A = ℕ} (replicate 7 0) g 0 ≡ 0
+    zeros g low = get_or-replicate 7 g 0 0 low
+
+start_counted : (p : Program) → 0 ≡ (start p).counted
+unfolding start
+start_counted p = refl
+
+start_triggered : (p : Program) → 0 ≡ (start p).triggered
+unfolding start
+start_triggered p = refl
+
 holds_start : (p : Program) → Holds (start p) (fresh_parts p)
 holds_start p = record {
   words = start_words p;
@@ -114,6 +130,9 @@ holds_start p = record {
   states = start_states p;
   pins = start_pins p;
   commits = start_commits p;
+  stats = start_stats p;
+  counted = start_counted p;
+  triggered = start_triggered p;
 }
 
 no_scratch : (o : Option Scratch) (x : Scratch) → o ≡ None → o ≡ Some x → ⊥
@@ -132,5 +151,5 @@ starts_sound s valid empty parts scratch = record {
 -- a World whose fields are as at the start
 pub fresh_is : (s : Inside) → s.space ≡ replicate (page_words * s.program.pages) 0 → s.pages ≡ replicate s.program.pages Free →
     s.labels ≡ replicate (page_labels * s.program.pages) 0 → s.cells ≡ zero_cells (length s.program.threads) →
-    s.states ≡ replicate (length s.program.threads) fresh_state → s.pins ≡ replicate (length s.program.threads) [] → s.commits ≡ 0 → parts_of s ≡ fresh_parts s.program
-fresh_is s words pages labels cells states pins commits = cc
+    s.states ≡ replicate (length s.program.threads) fresh_state → s.pins ≡ replicate (length s.program.threads) [] → s.commits ≡ 0 → s.stats ≡ fresh_stats → s.counted ≡ 0 → s.triggered ≡ 0 → parts_of s ≡ fresh_parts s.program
+fresh_is s words pages labels cells states pins commits stats counted triggered = cc

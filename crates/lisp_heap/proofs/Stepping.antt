@@ -12,6 +12,7 @@ use Rattle.heap_terms.specs.declared.events.Event.TheVariants.{Did}
 use Rattle.heap_terms.specs.declared.pages.Next.{Next}
 use Rattle.heap_terms.specs.declared.pages.Next.TheVariants as nexts
 use Rattle.heap_terms.specs.declared.programs.Program.{Program}
+use Rattle.heap_terms.specs.Generations.{allocated}
 use Rattle.heap_terms.specs.Heap.{NamedHeap, Thread, thread_at}
 use Rattle.heap_terms.specs.Cells.{with_cell}
 use Rattle.heap_terms.specs.RawCells.{with_raw}
@@ -19,7 +20,8 @@ use Rattle.heap_terms.specs.Histories.{IsNext, IsAnswer, after, after_command, a
 use Rattle.heap_terms.specs.Outcomes.{outcome_of}
 use Rattle.heap_terms.specs.Valid.{IsValid}
 use Rattle.heap_terms.specs.WellFormed.{IsWellFormed}
-use Rattle.heap_laws.proofs.SoundHeaps.{outcome-kept}
+use Rattle.heap_laws.proofs.SoundHeaps.{outcome-allocated, outcome-kept}
+use Rattle.heap_laws.proofs.Allocating.{limited}
 use Rattle.heap_laws.proofs.Reading.{replay-few}
 use Rattle.heap_laws.proofs.ValidScripts.{script_place, script_command}
 use Rattle.heap_laws.proofs.NextEvents.{Lawful-push, replay-push, next_parts}
@@ -156,9 +158,13 @@ module _ (s : Inside) (h : IsSound s) (t : ℕ) (c : Command) (answer : Answer) 
   effect_well_formed = outcome-kept s.program (heap s) t c (well_formed s h) h.valid.pages_most lt alive
       (script_command s.program t (thread_at (heap s) t).done c h.valid at).in_range
 
+  effect_words : (g : ℕ) → allocated (outcome_of (heap s) t c).heap g ≡ allocated (heap s) g
+  effect_words g = outcome-allocated s.program (heap s) t c g (limited s.program h.valid) (well_formed s h) lt alive
+      (script_command s.program t (thread_at (heap s) t).done c h.valid at).in_range
+
   effect_holds : Holds (outcome_of (heap s) t c).heap (parts_after (parts_of s) t change)
   effect_holds = Holds-change s.program (heap s) (outcome_of (heap s) t c).heap (parts_of s) t change (well_formed s h) effect_well_formed
-      lt (parts_hold s h) is.makes
+      lt effect_words (parts_hold s h) is.makes
 
   threads_there : t < length (outcome_of (heap s) t c).heap.threads
   threads_there = omega (arith, effect_well_formed.threads_length, lt)

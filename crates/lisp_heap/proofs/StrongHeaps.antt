@@ -34,12 +34,11 @@ use Rattle.heap_terms.specs.RawCells.{raw_value}
 use Rattle.heap_terms.specs.Spelling.{word_of}
 use Rattle.heap_terms.specs.Passes.{after_pass, object_after, remains}
 use Rattle.heap_terms.specs.Referents.{changed_at, fields_at, raws_at, refilled, with_field, with_field_at, with_raws}
-use Rattle.heap_terms.specs.Regions.{committed, opened, wish_of, with_destination, destination_of, initial_contents, place_for, run_used, pages_after}
+use Rattle.heap_terms.specs.Regions.{committed, counting, triggers, opened, wish_of, with_destination, destination_of, initial_contents, place_for, run_used, pages_after}
 use Rattle.heap_terms.specs.Layout.{size_of}
 use Rattle.heap_terms.specs.Survival.{surviving, registered}
 use Rattle.heap_terms.specs.Valid.{IsValid}
 use Rattle.heap_laws.proofs.AtPlaces.{set_cases, push_cases}
-use Rattle.heap_laws.proofs.Allocating.{counting-off}
 use Rattle.heap_laws.proofs.NextEvents.{next_parts, next_with_command, opens_for, allocating_refused}
 use Rattle.heap_laws.proofs.ValidScripts.{IsBuilt, script_built}
 use Rattle.pass_laws.proofs.AfterPages.{object_at-after}
@@ -162,6 +161,7 @@ module _ (a : NamedHeap) (t : ℕ) (h : IsStrongHeap a) where
       h (strong_thread a t _ h)
   strong_outcome (commands.ShowPage page) simple =
       by_test (nat_lt page (length a.pages)) (answering (answers.Page (page_view a page)) a) (refused OutOfRange a) h h
+  strong_outcome (commands.Stat g) simple = h
   strong_outcome _ simple = absurd simple
 
 -- ---- commits
@@ -174,6 +174,13 @@ initial_strong a t _ built = tt
 destination_same : (b : NamedHeap) (t : ℕ) (o : Option Cell) (v : Value) → IsStrongHeap b → IsStrongHeap (with_destination b t o v)
 destination_same b t None v h = h
 destination_same b t (Some d) v h = strong_cell b t d v h
+
+-- the words of a commit are counted
+strong_counting : (p : Program) (b : NamedHeap) (t size : ℕ) → IsStrongHeap b → IsStrongHeap (counting p b t size)
+strong_counting p b t size h = elim (cases_Bool (triggers p b size)) [
+  | inl reached ↦ rw reached (record { objects = h.objects; finalizers = h.finalizers })
+  | inr below ↦ rw below (record { objects = h.objects; finalizers = h.finalizers })
+]
 
 strong_committed : (p : Program) (a : NamedHeap) (t : ℕ) (c : Command) (kind : Kind) (n : ℕ) → IsValid p → IsBuilt c → IsStrongHeap a →
     IsStrongHeap (committed p a t c kind n)
@@ -189,7 +196,7 @@ strong_committed p a t c kind n valid built h =
       ];
       finalizers = h.finalizers;
     } in
-    subst IsStrongHeap (sym (counting-off p (with_destination placed t (destination_of c) (values.Ref (length a.objects))) t size valid.auto))
+    strong_counting p (with_destination placed t (destination_of c) (values.Ref (length a.objects))) t size
     (destination_same placed t (destination_of c) (values.Ref (length a.objects)) with_object)
 
 -- ---- passes

@@ -2,19 +2,22 @@
 use Rattle.std.proofs.Common.{◌≡◌, ℕ, ◌+◌, ◌*◌, ◌/◌, ◌<◌, List, length, map, refl, sym, ◌∙◌, subst, ap, get_or, set, length-set, Option}
 use Rattle.std.proofs.Math.Seq.{map-set_same}
 use Rattle.std.proofs.lemmas.List.{map-set, get_or-map}
-use Rattle.std.specs.Prelude.{slice_index, slice_set, IfSome}
+use Rattle.std.specs.Prelude.{if◌then◌else◌, slice_index, slice_set, sum_by, IfSome}
 use Rattle.heap_terms.specs.declared.cells.Cell.{Cell}
 use Rattle.heap_terms.specs.declared.cells.Cell.TheVariants.{Stack, Exact, Shared}
 use Rattle.heap_terms.specs.declared.cells.Raw.{Raw}
 use Rattle.heap_terms.specs.declared.cells.Value.{Value}
 use Rattle.heap_terms.specs.declared.pages.Entry.{Entry}
 use Rattle.heap_terms.specs.Cells.{with_cell}
+use Rattle.heap_terms.specs.Generations.{has_generation, words_taken}
 use Rattle.heap_terms.specs.Heap.{NamedHeap, Thread, thread_at, with_thread, object_at, entry_at, fill_of}
 use Rattle.heap_terms.specs.Layout.{page_words, filler_word}
 use Rattle.heap_terms.specs.Objects.{Object}
 use Rattle.heap_terms.specs.RawCells.{with_raw}
 use Rattle.heap_terms.specs.Stands.{WordsStand, SlotsStand, KeptStand}
 use Rattle.heap_terms.specs.WellFormed.{IsOwned}
+use Rattle.generation_policy.specs.Numbers.{StatsStand}
+use Rattle.generation_policy.specs.declared.stats.GenStats.{GenStats}
 use Rattle.lisp_heap.specs.Standing.{LabelsStand, pins_of}
 use Rattle.lisp_heap.specs.State.{state_of}
 use Rattle.lisp_heap.specs.declared.states.ThreadState.{ThreadState}
@@ -35,6 +38,30 @@ LabelsStand-same a b labels objects pages s = record {
   long = s.long ∙ ap (λ (ps : List Entry). 256 * length ps) (sym pages);
   named = subst (λ (os : List (Option Object)). (name : ℕ) → IfSome (object_at os name) (λ o. slice_index labels (o.place / 2) ≡ name)) (sym objects) s.named;
 }
+
+-- the words that an object adds to those of generation g
+abbrev words_in : ℕ → Option Object → ℕ
+words_in g o = if has_generation g o then words_taken o else 0
+
+-- the policy's numbers are the same where those of the heap are
+pub StatsStand-same : (a b : NamedHeap) (stats : GenStats) → b.objects ≡ a.objects → b.cum ≡ a.cum → b.num ≡ a.num → StatsStand a stats → StatsStand b stats
+StatsStand-same a b stats objects cum num s = record {
+  allocated_is = λ g low. s.allocated_is g low ∙ ap (λ (os : List (Option Object)). sum_by (words_in g) os) (sym objects);
+  cum_is = s.cum_is ∙ sym cum;
+  num_is = s.num_is ∙ sym num;
+}
+
+-- a heap with the same numbers of the policy
+pub record HasSameNumbers (a b : NamedHeap) : Type 0 where
+  pub cum : b.cum ≡ a.cum
+  pub num : b.num ≡ a.num
+  pub counted : b.counted ≡ a.counted
+  pub triggered : b.triggered ≡ a.triggered
+
+pub with_cell-numbers : (a : NamedHeap) (t : ℕ) (cell : Cell) (v : Value) → HasSameNumbers a (with_cell a t cell v)
+with_cell-numbers a t (Stack i) v = record { cum = refl; num = refl; counted = refl; triggered = refl }
+with_cell-numbers a t (Exact i) v = record { cum = refl; num = refl; counted = refl; triggered = refl }
+with_cell-numbers a t (Shared i) v = record { cum = refl; num = refl; counted = refl; triggered = refl }
 
 -- a write of a cell changes no object, no page and no state
 pub with_cell-objects : (a : NamedHeap) (t : ℕ) (cell : Cell) (v : Value) → (with_cell a t cell v).objects ≡ a.objects

@@ -11,6 +11,7 @@ pub mod WorldSound
 pub mod Plan
 pub mod Wishes
 pub mod Commits
+pub mod Counting
 pub mod LivingWords
 pub mod Leases
 pub mod Ready

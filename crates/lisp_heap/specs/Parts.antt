@@ -4,6 +4,8 @@ use Rattle.heap_terms.specs.declared.pages.Entry.{Entry}
 use Rattle.heap_terms.specs.declared.pages.Entry.TheVariants as entries
 use Rattle.heap_terms.specs.declared.programs.Program.{Program}
 use Rattle.heap_terms.specs.Layout.{page_words}
+use Rattle.generation_policy.specs.Numbers.{fresh_stats}
+use Rattle.generation_policy.specs.declared.stats.GenStats.{GenStats}
 use Rattle.lisp_heap.specs.CellsView.{CellsView, zero_cells}
 use Rattle.lisp_heap.specs.State.{fresh_state}
 use Rattle.lisp_heap.specs.declared.states.ThreadState.{ThreadState}
@@ -13,8 +15,8 @@ abbrev pub page_labels : ℕ
 page_labels = 256
 
 -- The words of the space, the entry of each page, the label of each double word, the words in the cells, of each
--- thread its place in its script, what it owes and its open regions, the pins of each thread, and how many objects were
--- committed.
+-- thread its place in its script, what it owes and its open regions, the pins of each thread, how many objects were
+-- committed, the policy's numbers, and for `auto` how many words were counted and how many commits asked for a collection.
 pub record Parts : Type 0 where
   pub words : List ℕ
   pub pages : List Entry
@@ -23,9 +25,12 @@ pub record Parts : Type 0 where
   pub states : List ThreadState
   pub pins : List (List ℕ)
   pub commits : ℕ
+  pub stats : GenStats
+  pub counted : ℕ
+  pub triggered : ℕ
 
--- before the first event: every word, label and cell is 0, every page is free, no thread has done anything, and nothing
--- is pinned
+-- before the first event: every word, label, cell and number is 0, every page is free, no thread has done anything, and
+-- nothing is pinned
 abbrev pub fresh_parts : Program → Parts
 fresh_parts p = record {
   words = replicate (page_words * p.pages) 0;
@@ -35,4 +40,7 @@ fresh_parts p = record {
   states = replicate (length p.threads) fresh_state;
   pins = replicate (length p.threads) [];
   commits = 0;
+  stats = fresh_stats;
+  counted = 0;
+  triggered = 0;
 }

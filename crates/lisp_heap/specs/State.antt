@@ -1,5 +1,5 @@
 -- What the World keeps of a thread beside its cells.
-use Rattle.std.specs.Prelude.{ℕ, ◌+◌, ◌==◌, List, Option, Some, None, false, true, if◌then◌else◌, slice_index_or, slice_set}
+use Rattle.std.specs.Prelude.{ℕ, ◌+◌, ◌==◌, List, Option, Some, None, false, true, if◌then◌else◌, slice_index_or, slice_set, unwrap_or}
 use Rattle.heap_terms.specs.declared.kinds.PageType.{PageType}
 use Rattle.heap_terms.specs.declared.kinds.PageType.TheVariants as types
 use Rattle.heap_terms.specs.Heap.{Thread}
@@ -67,6 +67,10 @@ with_inhibits states t count = slice_set states t (record (slice_index_or states
 -- the states with another generation up to which one thread owes a collection
 abbrev pub with_owed : List ThreadState → ℕ → Option ℕ → List ThreadState
 with_owed states t owed = slice_set states t (record (slice_index_or states t fresh_state) { owed = owed })
+
+-- the states after one thread came to owe at least a collection of generation 0
+abbrev pub with_asked : List ThreadState → ℕ → List ThreadState
+with_asked states t = with_owed states t (Some (unwrap_or (slice_index_or states t fresh_state).owed 0))
 
 -- the state of a thread whose regions were closed
 abbrev pub state_closed : ThreadState → ThreadState

@@ -8,7 +8,7 @@ use Rattle.heap_terms.specs.Histories.{replay, next}
 use Rattle.lisp_heap.specs.Parts.{Parts}
 
 -- A World as its program, its history, and what it keeps: its words, pages, labels, cells, the places and the open
--- regions of its threads, and the number of its commits. The named heap is the replay of the history, and what the
+-- regions of its threads, the number of its commits, and the policy's numbers. The named heap is the replay of the history, and what the
 -- World keeps stands for it.
 pub record View : Type 0 where
   pub program : Program

@@ -12,7 +12,18 @@ use Rattle.lisp_heap.specs.declared.scratch.Scratch.{Scratch}
 use Rattle.lisp_heap.specs.declared.world.World.TheInside.{Inside}
 
 abbrev pub parts_of : Inside → Parts
-parts_of s = record { words = s.space; pages = s.pages; labels = s.labels; cells = s.cells; states = s.states; pins = s.pins; commits = s.commits }
+parts_of s = record {
+  words = s.space;
+  pages = s.pages;
+  labels = s.labels;
+  cells = s.cells;
+  states = s.states;
+  pins = s.pins;
+  commits = s.commits;
+  stats = s.stats;
+  counted = s.counted;
+  triggered = s.triggered;
+}
 
 abbrev pub view_of : Inside → View
 view_of s = record { program = s.program; history = s.history.items; parts = parts_of s }

@@ -13,6 +13,7 @@ ghost use Rattle.lisp_heap.specs.Events.{Happens};
 ghost use Rattle.lisp_heap.specs.ParcelView.{ParcelView};
 ghost use Rattle.lisp_heap.specs.View.{heap_of, next_of};
 
+use crate::counting::{add_words, count_words};
 use crate::parcels::{Making, Parcel};
 use crate::wishes::{destination, wish};
 use crate::world::World;
@@ -188,6 +189,15 @@ impl World {
         self.cells.write(t as usize, d, tag(index, kind));
         self.commits += 1;
         self.states.place(t as usize, size);
+        add_words(&mut self.stats, size);
+        count_words(
+            self.program.auto,
+            &mut self.counted,
+            &mut self.triggered,
+            &mut self.states,
+            t as usize,
+            size,
+        );
         Ok(name)
     }
 }

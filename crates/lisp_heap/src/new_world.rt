@@ -10,6 +10,7 @@ use crate::parcels::Parcel;
 use crate::pins::Pins;
 use crate::states::States;
 use crate::world::World;
+use generation_policy::GenStats;
 use heap_terms::{Memory, Program};
 use page_table::PageTable;
 use std::alloc::Global;
@@ -58,6 +59,7 @@ impl World {
         let pins = Pins::none(alloc, threads)?;
         let history = Vec::with_capacity(alloc, events_of(&program))?;
         let parcels = fresh_parcels(alloc, threads as u32)?;
+        let stats = GenStats::new();
         let world = World {
             alloc,
             program,
@@ -68,6 +70,9 @@ impl World {
             states,
             pins,
             commits: 0,
+            stats,
+            counted: 0,
+            triggered: 0,
             history,
             scratch: None,
         };

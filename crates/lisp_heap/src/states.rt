@@ -2,7 +2,7 @@
 
 ghost use Rattle.std.specs.Prelude.{◌≡◌, ◌+◌, ◌<◌, ◌^◌, length, map, slice_get, slice_index_or, replicate, IfOk};
 ghost use Rattle.std.specs.Option.{ForSome};
-ghost use Rattle.lisp_heap.specs.State.{advanced, fresh_state, state_closed, state_due, state_page, state_with_page, state_with_region, with_ended, with_inhibits, with_owed, with_placed, with_region_open};
+ghost use Rattle.lisp_heap.specs.State.{advanced, fresh_state, state_closed, state_due, state_page, state_with_page, state_with_region, with_asked, with_ended, with_inhibits, with_owed, with_placed, with_region_open};
 
 use heap_terms::{Memory, PAGE_WORDS, PageType};
 use std::alloc::Global;
@@ -223,6 +223,14 @@ impl States {
         ensures { self.new ≡ with_owed self.old t owed }
     {
         self.states[t].owed = owed;
+    }
+
+    /// One thread owes at least a collection of generation 0 from now on.
+    pub fn ask(&mut self, t: usize)
+        requires { t < length self.old }
+        ensures { self.new ≡ with_asked self.old t }
+    {
+        self.states[t].owed = Some(self.states[t].owed.unwrap_or(0));
     }
 
     /// No thread has an open region from now on.

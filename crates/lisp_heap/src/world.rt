@@ -26,6 +26,7 @@ use crate::plan::{Plan, apply};
 use crate::scratch::Scratch;
 use crate::states::{States, ThreadState};
 use crate::wishes::wish;
+use generation_policy::GenStats;
 use heap_terms::{Command, Entry, Event, Kind, Memory, Next, PAGE_WORDS, PageType, Program};
 use lisp_words::{page_type, size_of};
 use page_table::{PageTable, pages_needed};
@@ -47,6 +48,12 @@ pub struct World {
     pub(crate) states: States,
     pub(crate) pins: Pins,
     pub(crate) commits: u32,
+    /// The policy's numbers.
+    pub(crate) stats: GenStats,
+    /// The words that were committed since `auto` last asked for a collection; 0 without `auto`.
+    pub(crate) counted: u64,
+    /// How many commits let `auto` ask for a collection.
+    pub(crate) triggered: u32,
     pub(crate) history: Vec<Event>,
     /// What collections work with. A script without collections never needs it.
     pub(crate) scratch: Option<Scratch>,
@@ -339,6 +346,10 @@ impl World {
                 let plan = self.viewed(t as usize, p)?;
                 self.carry_out(t, command, plan)
             }
+            Command::Stat { g } => {
+                let plan = self.told(t as usize, g);
+                self.carry_out(t, command, plan)
+            }
             // These allocate.
             Command::NewCons { .. }
             | Command::NewVector { .. }
@@ -355,8 +366,7 @@ impl World {
             | Command::TableCount { .. }
             | Command::Finalize { .. }
             | Command::Cancel { .. }
-            | Command::RunFinalizers
-            | Command::Stat { .. } => unreachable!(),
+            | Command::RunFinalizers => unreachable!(),
         }
     }
 

@@ -59,6 +59,9 @@ made c = record {
   states = c.advance.new.self;
   pins = c.apply.new.pins;
   commits = c.self.inside.commits;
+  stats = c.self.inside.stats;
+  counted = c.self.inside.counted;
+  triggered = c.self.inside.triggered;
   history = c.push.new.self;
   scratch = c.self.inside.scratch;
 }
@@ -80,6 +83,9 @@ sound_made c =
       states = c.advance.new.self;
       pins = c.apply.new.pins;
       commits = s.commits;
+      stats = s.stats;
+      counted = s.counted;
+      triggered = s.triggered;
     }) =
     rw (c.apply.ensures.cells, c.apply.ensures.words, c.advance.ensures, c.apply.ensures.states, c.apply.ensures.pins)
     (did_holds s c.self.invariant c.args.t c.args.command c.args.plan.answer c.args.plan.change lt at simple is) in

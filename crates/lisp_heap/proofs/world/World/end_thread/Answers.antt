@@ -45,6 +45,9 @@ made c = record {
   states = c.end.new.self;
   pins = c.clear-2.new.self;
   commits = c.self.inside.commits;
+  stats = c.self.inside.stats;
+  counted = c.self.inside.counted;
+  triggered = c.self.inside.triggered;
   history = c.push.new.self;
   scratch = c.self.inside.scratch;
 }
@@ -61,6 +64,9 @@ sound_made c =
       states = c.end.new.self;
       pins = c.clear-2.new.self;
       commits = s.commits;
+      stats = s.stats;
+      counted = s.counted;
+      triggered = s.triggered;
     }) =
     rw (c.clear.ensures, c.clear-2.ensures, c.end.ensures)
     (after_end_holds s.program (heap s) (parts_of s) c.args.t (thread_there s c.self.invariant c.args.t lt) c.self.invariant.holds) in

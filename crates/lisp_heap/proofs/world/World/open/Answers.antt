@@ -48,6 +48,9 @@ made c = record {
   states = c.open_region.new.self;
   pins = c.self.inside.pins;
   commits = c.self.inside.commits;
+  stats = c.self.inside.stats;
+  counted = c.self.inside.counted;
+  triggered = c.self.inside.triggered;
   history = c.push.new.self;
   scratch = c.self.inside.scratch;
 }
@@ -72,6 +75,9 @@ sound_made c =
       states = c.open_region.new.self;
       pins = s.pins;
       commits = s.commits;
+      stats = s.stats;
+      counted = s.counted;
+      triggered = s.triggered;
     }) =
     rw (c.take_run.ensures.opened refl, c.open_region.ensures) (opened_holds s c.self.invariant c.args.t c.args.ty c.args.first c.args.pages f) in
     sound_after s (made c) (event c) c.self.invariant refl (pushed c) (opened_next s c.self.invariant c.args.t c.args.ty c.args.first c.args.pages f) c.self.invariant.scratch held

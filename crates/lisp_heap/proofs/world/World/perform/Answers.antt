@@ -61,10 +61,7 @@ unreachable-requires-in-WeakVal c =
                 | inl e ↦ subst IsSimple e.2 simple
                 | inr more ↦ elim more [
                   | inl e ↦ subst IsSimple e.1 simple
-                  | inr more ↦ elim more [
-                    | inl e ↦ subst IsSimple e simple
-                    | inr more ↦ subst IsSimple more.1 simple
-                  ]
+                  | inr more ↦ subst IsSimple more simple
                 ]
               ]
             ]

@@ -47,6 +47,9 @@ made c = record {
   states = c.advance.new.self;
   pins = c.self.inside.pins;
   commits = c.self.inside.commits;
+  stats = c.self.inside.stats;
+  counted = c.self.inside.counted;
+  triggered = c.self.inside.triggered;
   history = c.push.new.self;
   scratch = c.self.inside.scratch;
 }
@@ -68,6 +71,9 @@ sound_made c =
       states = c.advance.new.self;
       pins = s.pins;
       commits = s.commits;
+      stats = s.stats;
+      counted = s.counted;
+      triggered = s.triggered;
     }) =
     rw c.advance.ensures (refused_holds s c.self.invariant c.args.t c.current-command.result lt at opens) in
     sound_after s (made c) e c.self.invariant refl c.in_ok-push.ensures.items
