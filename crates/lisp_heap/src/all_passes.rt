@@ -57,14 +57,14 @@ pub fn make_passes(
     scratch: &mut Scratch,
     stats: &mut GenStats,
     last: u8,
-    rooms: &mut Vec<RecordRoom>,
+    mut rooms: Vec<RecordRoom>,
     passes: &mut Vec<PassRecord>,
 )
     ghost h: { Rooted }
     requires stand { Stand h last space.old pages.old labels.old scratch.old.roots.exact.items scratch.old.roots.ambiguous.items stats.old [] }
     requires reserved { IsReservedFor scratch.old.room (length h.heap.pages) (length scratch.old.roots.ambiguous.items) }
-    requires rooms { AreRooms rooms.old.items (length h.heap.objects) (length scratch.old.roots.ambiguous.items) (length h.heap.pages) }
-    requires six { vec_len rooms.old ≡ 6 }
+    requires rooms { AreRooms rooms.items (length h.heap.objects) (length scratch.old.roots.ambiguous.items) (length h.heap.pages) }
+    requires six { vec_len rooms ≡ 6 }
     requires none { passes.old.items ≡ [] }
     requires capacity { 6 ≤ vec_capacity passes.old }
     ensures stand { Stand h last space.new pages.new labels.new scratch.new.roots.exact.items scratch.new.roots.ambiguous.items stats.new passes.new.items }

@@ -139,7 +139,7 @@ impl World {
     {
         gather(&self.cells, &self.pins, &mut scratch.roots)?;
         let pinned = scratch.roots.ambiguous.len();
-        let mut rooms = reserve_rooms(self.alloc, self.commits, pinned, self.pages.len())?;
+        let rooms = reserve_rooms(self.alloc, self.commits, pinned, self.pages.len())?;
         let mut passes = Vec::with_capacity(self.alloc, MOST_PASSES)?;
         self.history.reserve(1)?;
         self.states.close_regions();
@@ -150,7 +150,7 @@ impl World {
             scratch,
             &mut self.stats,
             last,
-            &mut rooms,
+            rooms,
             &mut passes,
         );
         self.cells.rewrite(scratch.roots.exact.as_slice());
