@@ -1,5 +1,5 @@
 -- What a World's fields stand for after a collection.
-use Rattle.std.proofs.Common.{◌≡◌, ℕ, ◌+◌, ◌*◌, ◌<◌, List, [], ◌∷◌, length, map, refl, sym, ◌∙◌, subst, ap, arith, get_or, option_map, None, Bool, false, inl, inr}
+use Rattle.std.proofs.Common.{◌≡◌, ℕ, ◌+◌, ◌*◌, ◌<◌, ◌≤◌, List, [], ◌∷◌, length, map, refl, sym, ◌∙◌, ap, arith, get_or, option_map, None, inl, inr}
 use Rattle.std.proofs.lemmas.Bool.{cases_eq}
 use Rattle.std.proofs.lemmas.List.{length-append, length-drop, length-map, length-take-le, get_or-map, get_or-take, get_or-drop, get_or_append_left, get_or-append-add}
 use Rattle.std.specs.Prelude.{flat_map}
@@ -9,15 +9,18 @@ use Rattle.heap_terms.specs.declared.events.PassRecord.{PassRecord}
 use Rattle.heap_terms.specs.declared.pages.Entry.{Entry}
 use Rattle.heap_terms.specs.declared.pages.Next.TheVariants as nexts
 use Rattle.heap_terms.specs.declared.programs.Program.{Program}
-use Rattle.heap_terms.specs.Collections.{IsCollection, after_pass_of, closed, closed_thread, collected}
+use Rattle.heap_terms.specs.Collections.{ArePasses, IsPassOf, after_pass_of, after_passes, closed, closed_thread, collected}
 use Rattle.heap_terms.specs.Heap.{NamedHeap, Thread, thread_at, zero_value}
 use Rattle.heap_terms.specs.Histories.{IsNext, after, next}
-use Rattle.heap_terms.specs.Passes.{IsPass, after_pass}
-use Rattle.heap_terms.specs.Policy.{goes_on, promotes, raises, target_of}
+use Rattle.heap_terms.specs.Passes.{after_pass}
+use Rattle.heap_terms.specs.Policy.{is_raised, target_of}
 use Rattle.heap_terms.specs.Spelling.{word_of}
 use Rattle.heap_terms.specs.WellFormed.{IsWellFormed}
 use Rattle.heap_laws.proofs.EventSteps.{collected_threads}
-use Rattle.pass_laws.proofs.AfterPages.{objects_long}
+use Rattle.generation_policy.specs.declared.stats.GenStats.{GenStats}
+use Rattle.generation_policy.specs.Numbers.{StatsStand}
+use Rattle.pass_laws.proofs.Collecting.{closed_none, is_continued-low, pass_of-well_formed}
+use Rattle.pass_laws.specs.NoRegions.{HasNoRegions}
 use Rattle.trace_laws.specs.Rooted.{StandFor}
 use Rattle.lisp_heap.specs.Agreement.{Agrees, run_out, run_type_of, small_out}
 use Rattle.lisp_heap.specs.CellsView.{CellsView, spot, with_exact_words}
@@ -31,7 +34,7 @@ use Rattle.lisp_heap.proofs.Closing.{Holds-closed, closed_wf, exact_each}
 use Rattle.lisp_heap.proofs.FlatCells.{HaveEach, flat_at, flat_long}
 use Rattle.lisp_heap.proofs.PerformLemmas.{Holds-thread}
 use Rattle.lisp_heap.proofs.Pinned.{ambiguous_stays, stack_word}
-use Rattle.lisp_heap.proofs.Unchanged.{LabelsStand-same, WordsStand-same, state_read}
+use Rattle.lisp_heap.proofs.Unchanged.{state_read}
 
 -- ---- the cells
 
@@ -95,68 +98,76 @@ after_pass-shared : (b : NamedHeap) (r : PassRecord) → (after_pass b r).shared
 unfolding after_pass
 after_pass-shared b r = refl
 
--- the policy's numbers are none that a World keeps
-Holds-policy : (c : NamedHeap) (cum num : List ℕ) (v : Parts) → Holds c v → Holds (record c { cum = cum; num = num }) v
-Holds-policy c cum num v h = record {
-  words = WordsStand-same c (record c { cum = cum; num = num }) v.words refl refl h.words;
-  pages = h.pages;
-  labels = LabelsStand-same c (record c { cum = cum; num = num }) v.labels refl refl h.labels;
-  cells = record {
-    stack_length = h.cells.stack_length;
-    exact_length = h.cells.exact_length;
-    raws_length = h.cells.raws_length;
-    shared_length = h.cells.shared_length;
-    stack = h.cells.stack;
-    exact = h.cells.exact;
-    raws = h.cells.raws;
-    shared = h.cells.shared;
-  };
-  states = h.states;
-  pins = h.pins;
-  commits = h.commits;
-}
+-- and so do all passes, and what `auto` counts
+passes-threads : (b : NamedHeap) (last g : ℕ) (records : List PassRecord) → (after_passes b last g records).threads ≡ b.threads
+passes-threads b last g [] = refl
+passes-threads b last g (r ∷ rest) = passes-threads (after_pass_of b last g r) last (g + 1) rest ∙ after_pass-threads b r
 
--- ---- the policy, until promotion is built
+passes-shared : (b : NamedHeap) (last g : ℕ) (records : List PassRecord) → (after_passes b last g records).shared ≡ b.shared
+passes-shared b last g [] = refl
+passes-shared b last g (r ∷ rest) = passes-shared (after_pass_of b last g r) last (g + 1) rest ∙ after_pass-shared b r
 
-raises_not : (a : NamedHeap) (last g : ℕ) → raises a last g ≡ false
-unfolding raises promotes
-raises_not a last g = refl
+after_pass-counted : (b : NamedHeap) (r : PassRecord) → (after_pass b r).counted ≡ b.counted
+unfolding after_pass
+after_pass-counted b r = refl
 
-goes_on_not : (a : NamedHeap) (last g : ℕ) (raised : Bool) → goes_on a last g raised ≡ false
-unfolding goes_on promotes
-goes_on_not a last g raised = refl
+after_pass-triggered : (b : NamedHeap) (r : PassRecord) → (after_pass b r).triggered ≡ b.triggered
+unfolding after_pass
+after_pass-triggered b r = refl
 
--- one pass over generation 0 that raises nothing is a collection
-pub one_pass : (a : NamedHeap) (last : ℕ) (r : PassRecord) → ((t : ℕ) → (thread_at a t).inhibits ≡ 0) → IsPass (closed a) 0 0 r → IsCollection a last (r ∷ [])
-one_pass a last r allowed pass = record {
-  allowed = allowed;
-  passes = (
-    subst (λ (b : Bool). IsPass (closed a) 0 (target_of 0 b) r) (sym (raises_not (closed a) last 0)) pass,
-    goes_on_not (after_pass_of (closed a) last 0 r) last 0 (raises (closed a) last 0),
-  );
-}
+passes-counted : (b : NamedHeap) (last g : ℕ) (records : List PassRecord) → (after_passes b last g records).counted ≡ b.counted
+passes-counted b last g [] = refl
+passes-counted b last g (r ∷ rest) = passes-counted (after_pass_of b last g r) last (g + 1) rest ∙ after_pass-counted b r
 
-pub collected_next : (p : Program) (a : NamedHeap) (t last : ℕ) (r : PassRecord) → next p a t ≡ nexts.Collect last → ((u : ℕ) → (thread_at a u).inhibits ≡ 0) →
-    IsPass (closed a) 0 0 r → IsNext p a (Collected t last (r ∷ []))
+passes-triggered : (b : NamedHeap) (last g : ℕ) (records : List PassRecord) → (after_passes b last g records).triggered ≡ b.triggered
+passes-triggered b last g [] = refl
+passes-triggered b last g (r ∷ rest) = passes-triggered (after_pass_of b last g r) last (g + 1) rest ∙ after_pass-triggered b r
+
+-- ---- the words of the cells s
+
+thread_after : (b : NamedHeap) (last g : ℕ) (r : PassRecord) (u : ℕ) → thread_at (after_pass_of b last g r) u ≡ thread_at b u
+thread_after b last g r u = ap (λ (ths : List Thread). thread_at (record b { threads = ths }) u) (after_pass-threads b r)
+
+module _ (p : Program) where
+  one_stays : (b : NamedHeap) (last g : ℕ) (r : PassRecord) → IsWellFormed p b → IsPassOf b last g r → (u i : ℕ) → u < length b.threads → i < 16 →
+      word_of (after_pass_of b last g r).objects (get_or (thread_at b u).stack i zero_value) ≡ word_of b.objects (get_or (thread_at b u).stack i zero_value)
+  one_stays b last g r wf pass u i lu li =
+      let th = wf.threads u (omega (arith, lu, wf.threads_length)) in
+      ambiguous_stays b g (target_of g (is_raised b last g)) r wf.sound pass (get_or (thread_at b u).stack i zero_value) (th.stack i)
+      (stack_word b u i lu (omega (arith, th.stack_length, li)))
+
+  stack_stays : (b : NamedHeap) (last g : ℕ) (records : List PassRecord) → g ≤ 5 → IsWellFormed p b → HasNoRegions b → ArePasses b last g records → (u i : ℕ) → u < length b.threads → i < 16 →
+      word_of (after_passes b last g records).objects (get_or (thread_at b u).stack i zero_value) ≡ word_of b.objects (get_or (thread_at b u).stack i zero_value)
+  stack_stays b last g [] low wf none are u i lu li = absurd are
+  stack_stays b last g (r ∷ []) low wf none are u i lu li = one_stays b last g r wf are.0 u i lu li
+  stack_stays b last g (r ∷ s ∷ rest) low wf none are u i lu li =
+      let c = after_pass_of b last g r in
+      let first = pass_of-well_formed p b last g r low wf none are.0 in
+      let more = is_continued-low c last g (is_raised b last g) are.1 in
+      let count : length c.threads ≡ length b.threads = ap (λ (ths : List Thread). length ths) (after_pass-threads b r) in
+      let rest_stays = stack_stays c last (g + 1) (s ∷ rest) (omega (arith, more)) first.0 first.1 are.2 u i (omega (arith, lu, count)) li in
+      let same : get_or (thread_at c u).stack i zero_value ≡ get_or (thread_at b u).stack i zero_value = ap (λ (th : Thread). get_or th.stack i zero_value) (thread_after b last g r u) in
+      ap (word_of (after_passes b last g (r ∷ s ∷ rest)).objects) (sym same) ∙ rest_stays ∙ ap (word_of c.objects) same ∙ one_stays b last g r wf are.0 u i lu li
+
+pub collected_next : (p : Program) (a : NamedHeap) (t last : ℕ) (records : List PassRecord) → next p a t ≡ nexts.Collect last → ((u : ℕ) → (thread_at a u).inhibits ≡ 0) →
+    ArePasses (closed a) last 0 records → IsNext p a (Collected t last records)
 unfolding IsNext
-collected_next p a t last r collects allowed pass = (collects, one_pass a last r allowed pass)
+collected_next p a t last records collects allowed are = (collects, record { allowed = allowed; passes = are })
 
 -- ---- all that a World keeps
 
-module _ (p : Program) (a : NamedHeap) (v : Parts) (wf : IsWellFormed p a) (h : Holds a v) (t last : ℕ) (r : PassRecord) (lt : t < length p.threads)
-    (pass : IsPass (closed a) 0 0 r) (words : List ℕ) (pages : List Entry) (labels exact : List ℕ)
-    (stands : StandFor (record { heap = after_pass (closed a) r; values = root_values (closed a) }) words pages exact (ambiguous_roots v.cells v.pins))
-    (named : LabelsStand (after_pass (closed a) r) labels) where
+module _ (p : Program) (a : NamedHeap) (v : Parts) (wf : IsWellFormed p a) (h : Holds a v) (t last : ℕ) (records : List PassRecord) (lt : t < length p.threads)
+    (are : ArePasses (closed a) last 0 records) (words : List ℕ) (pages : List Entry) (labels exact : List ℕ) (stats : GenStats)
+    (stands : StandFor (record { heap = after_passes (closed a) last 0 records; values = root_values (closed a) }) words pages exact (ambiguous_roots v.cells v.pins))
+    (named : LabelsStand (after_passes (closed a) last 0 records) labels) (numbers : StatsStand (after_passes (closed a) last 0 records) stats)
+    (long : length (after_passes (closed a) last 0 records).objects ≡ length (closed a).objects) where
   abbrev b : NamedHeap
   b = closed a
 
   abbrev c : NamedHeap
-  c = after_pass (closed a) r
+  c = after_passes (closed a) last 0 records
 
-  abbrev before : Parts
-  before = record v { states = map state_closed v.states }
-
-  holds_b : Holds (closed a) before
+  holds_b : Holds (closed a) (record v { states = map state_closed v.states })
   holds_b = Holds-closed a v h
 
   wf_b : IsWellFormed p (closed a)
@@ -171,16 +182,14 @@ module _ (p : Program) (a : NamedHeap) (v : Parts) (wf : IsWellFormed p a) (h : 
     states = map state_closed v.states;
     pins = v.pins;
     commits = v.commits;
+    stats = stats;
+    counted = v.counted;
+    triggered = v.triggered;
   }
 
-  stack_stays : (u i : ℕ) → u < length b.threads → i < 16 → word_of c.objects (get_or (thread_at b u).stack i zero_value) ≡ word_of b.objects (get_or (thread_at b u).stack i zero_value)
-  stack_stays u i lu li =
-      let th = wf_b.threads u (omega (arith, lu, wf_b.threads_length)) in
-      ambiguous_stays b 0 0 r wf_b.sound pass (get_or (thread_at b u).stack i zero_value) (th.stack i)
-      (stack_word b u i lu (omega (arith, th.stack_length, li)))
-
   cells_passed : CellsStand c (with_exact_words v.cells exact)
-  cells_passed = CellsStand-rewritten b c v.cells exact (after_pass-threads b r) (after_pass-shared b r) holds_b.cells (exact_each p b wf_b) wf_b.shared_length stands.roots.exact_are stack_stays
+  cells_passed = CellsStand-rewritten b c v.cells exact (passes-threads b last 0 records) (passes-shared b last 0 records) holds_b.cells (exact_each p b wf_b) wf_b.shared_length
+      stands.roots.exact_are (stack_stays p b last 0 records (omega arith) wf_b (closed_none a) are)
 
   holds_passed : Holds c passed
   holds_passed = record {
@@ -188,26 +197,27 @@ module _ (p : Program) (a : NamedHeap) (v : Parts) (wf : IsWellFormed p a) (h : 
     pages = stands.pages_are;
     labels = named;
     cells = cells_passed;
-    states = holds_b.states ∙ ap (λ (ths : List Thread). map state_of ths) (sym (after_pass-threads b r));
-    pins = holds_b.pins ∙ ap (λ (ths : List Thread). map pins_of ths) (sym (after_pass-threads b r));
-    commits = holds_b.commits ∙ sym (objects_long b 0 0 r wf_b.sound pass);
+    states = holds_b.states ∙ ap (λ (ths : List Thread). map state_of ths) (sym (passes-threads b last 0 records));
+    pins = holds_b.pins ∙ ap (λ (ths : List Thread). map pins_of ths) (sym (passes-threads b last 0 records));
+    commits = holds_b.commits ∙ sym long;
+    stats = numbers;
+    counted = holds_b.counted ∙ sym (passes-counted b last 0 records);
+    triggered = holds_b.triggered ∙ sym (passes-triggered b last 0 records);
   }
 
   -- the fields after the collection
   abbrev pub parts_then : Parts
   parts_then = record passed { states = with_owed (map state_closed v.states) t None }
 
-  pub collected_holds : Holds (after p a (Collected t last (r ∷ []))) parts_then
+  pub collected_holds : Holds (after p a (Collected t last records)) parts_then
   unfolding after collected
   collected_holds =
-      let d = after_pass_of b last 0 r in
-      let held : Holds d passed = Holds-policy c d.cum d.num passed holds_passed in
-      let count : length d.threads ≡ length a.threads = ap (λ (ths : List Thread). length ths) (after_pass-threads b r) ∙ length-map a.threads closed_thread in
-      let below : t < length d.threads = omega (arith, count, wf.threads_length, lt) in
-      let th : Thread = record (thread_at d t) { owed = None } in
+      let count : length c.threads ≡ length a.threads = ap (λ (ths : List Thread). length ths) (passes-threads b last 0 records) ∙ length-map a.threads closed_thread in
+      let below : t < length c.threads = omega (arith, count, wf.threads_length, lt) in
+      let th : Thread = record (thread_at c t) { owed = None } in
       let state : ThreadState = record (get_or passed.states t fresh_state) { owed = None } in
-      let same : state ≡ state_of th = ap (λ (x : ThreadState). record x { owed = None }) (state_read d passed.states t fresh_state held.states below) in
-      Holds-thread d passed t th state refl refl refl refl same held
+      let same : state ≡ state_of th = ap (λ (x : ThreadState). record x { owed = None }) (state_read c passed.states t fresh_state holds_passed.states below) in
+      Holds-thread c passed t th state refl refl refl refl same holds_passed
 
 -- ---- agreement
 

@@ -47,3 +47,7 @@ pub mod PageReading
 pub mod PageViewing
 pub mod StatTelling
 pub mod DueNext
+pub mod KeptThere
+pub mod CountedThere
+pub mod NextPass
+pub mod PassesSoFar

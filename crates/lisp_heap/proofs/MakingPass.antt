@@ -61,6 +61,7 @@ module _ (h : Rooted) (words : List ℕ) (pages : List Entry) (labels exact ambi
         let here : labels' ≡ relabelled labels done.r.moves = are ∙ ap (λ (x : PassRecord). relabelled labels x.moves) is_told in
         subst (λ (x : PassRecord). IsMade h words' pages' labels' exact' ambiguous' pass x) (sym is_told) (record {
           is_pass = done.is_pass;
+          moved = done.told.moved;
           stand = done.stand;
           named = subst (LabelsStand (after_pass h.heap done.r)) (sym here) stand;
         })

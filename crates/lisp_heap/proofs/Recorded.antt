@@ -96,7 +96,7 @@ have_labels a labels n r sound stand told = record {
 -- ---- how long the lists are
 
 -- at most as many moves as names
-of_below : (a : NamedHeap) (g name : ℕ) → is_of a g name ≡ true → name < length a.objects
+pub of_below : (a : NamedHeap) (g name : ℕ) → is_of a g name ≡ true → name < length a.objects
 of_below a g name e = elim (cases_lt name (length a.objects)) [
   | inl l ↦ l
   | inr past ↦ (let none : false ≡ true = subst (λ (q : Option Object). has_generation g q ≡ true) (get_or_past a.objects name None past) e in cc)

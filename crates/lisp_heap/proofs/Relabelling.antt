@@ -102,7 +102,7 @@ moved_entry (m ∷ rest) name index e = elim (cases_Bool (m.name == name)) [
 AllPairs-rest : (m : Placing) (rest : List Placing) → AllPairs (λ (x y : Placing). x.name ≢ y.name) (m ∷ rest) → AllPairs (λ (x y : Placing). x.name ≢ y.name) rest
 AllPairs-rest m rest h i j d l k = h (suc i) (suc j) d (omega (arith, l)) (omega (arith, k))
 
-moved_at : (moves : List Placing) (k : ℕ) (d : Placing) → AllPairs (λ (x y : Placing). x.name ≢ y.name) moves → k < length moves →
+pub moved_at : (moves : List Placing) (k : ℕ) (d : Placing) → AllPairs (λ (x y : Placing). x.name ≢ y.name) moves → k < length moves →
     moved_to moves (get_or moves k d).name ≡ (get_or moves k d).new
 moved_at [] k d once l = absurd (omega (arith, l))
 moved_at (m ∷ rest) zero d once l = rw (eq-eqb m.name m.name refl) refl

@@ -19,3 +19,6 @@ pub mod Rooting
 pub mod Recording
 pub mod Collecting
 pub mod ParcelSound
+pub mod Kept
+pub mod Counted
+pub mod AllPasses

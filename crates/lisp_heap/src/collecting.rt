@@ -12,13 +12,12 @@ ghost use Rattle.lisp_heap.specs.Rooting.{rooted_in};
 ghost use Rattle.lisp_heap.specs.View.{heap_of, next_of};
 ghost use Rattle.lisp_heap.specs.WorldSound.{IsRoomFor};
 
-use crate::one_pass::make_pass;
+use crate::all_passes::make_passes;
 use crate::parcels::Parcel;
-use crate::recording::RecordRoom;
+use crate::recording::{MOST_PASSES, reserve_rooms};
 use crate::rooting::gather;
 use crate::scratch::Scratch;
 use crate::world::World;
-use copy_space::Pass;
 use heap_terms::{Event, Memory, Next, Seq};
 
 /// Why a collection was not made. Nothing changed.
@@ -29,13 +28,6 @@ pub enum CollectFault {
     /// There was no memory.
     Memory,
 }
-
-/// The pass over the youngest generation, which stays the youngest. Until promotion is built a
-/// collection is this one pass.
-const YOUNGEST: Pass = Pass {
-    generation: 0,
-    raise: false,
-};
 
 /// Closes all regions of all parcels.
 fn close_parcels(parcels: &mut [Parcel])
@@ -147,20 +139,21 @@ impl World {
     {
         gather(&self.cells, &self.pins, &mut scratch.roots)?;
         let pinned = scratch.roots.ambiguous.len();
-        let room = RecordRoom::reserve(self.alloc, self.commits, pinned, self.pages.len())?;
-        let mut passes = Vec::with_capacity(self.alloc, 1)?;
+        let rooms = reserve_rooms(self.alloc, self.commits, pinned, self.pages.len())?;
+        let mut passes = Vec::with_capacity(self.alloc, MOST_PASSES)?;
         self.history.reserve(1)?;
         self.states.close_regions();
-        let record = make_pass(
+        make_passes(
             &mut self.space,
             &mut self.pages,
             &mut self.labels,
             scratch,
-            YOUNGEST,
-            room,
+            &mut self.stats,
+            last,
+            rooms,
+            &mut passes,
         );
         self.cells.rewrite(scratch.roots.exact.as_slice());
-        passes.push_reserved(record);
         self.history
             .push(Event::Collected {
                 thread: t,

@@ -63,7 +63,7 @@ impl World {
 
     /// Commits a cons. Both its words come from cells, so they are written as they are read, and
     /// nothing is copied from where the region builds: with the bump of the region's next index a
-    /// cons costs two words written, a label, a fill and a cell.
+    /// cons costs two words written, a label, a fill, a cell and the counts.
     #[inline(always)]
     fn commit_cons(&mut self, parcel: &mut Parcel, d: Cell, a: Cell, b: Cell) -> Result<u32, Memory>
         requires thread { parcel.old.owner < length self.old.program.threads }

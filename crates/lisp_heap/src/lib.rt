@@ -4,6 +4,7 @@
 #![tactic(auto)]
 
 mod agreement;
+mod all_passes;
 mod allocating;
 mod cell_commands;
 mod cells;
@@ -14,6 +15,7 @@ mod counting;
 mod due;
 mod field_commands;
 mod inhibit_commands;
+mod kept;
 mod new_world;
 mod one_pass;
 mod page_commands;

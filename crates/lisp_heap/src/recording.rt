@@ -2,6 +2,7 @@
 
 ghost use Rattle.std.specs.Prelude.{◌≡◌, ◌+◌, ◌/◌, ◌<◌, ◌≤◌, ◌++◌, length, map, All, IfOk, IfSome, vec_len, vec_capacity};
 ghost use Rattle.copy_space.specs.declared.notes.Move.{Move};
+ghost use Rattle.lisp_heap.specs.AllPasses.{AreRooms};
 ghost use Rattle.lisp_heap.specs.Recording.{CanRelabel, HasRoom, HaveLabels, labelled_by, new_place, pin_by, placing_by, recorded, relabelled};
 
 use copy_space::{Move, PassNotes};
@@ -30,6 +31,26 @@ impl RecordRoom {
             freed: Vec::with_capacity(alloc, freed as usize)?,
         })
     }
+}
+
+/// How many passes a collection has at most.
+pub(crate) const MOST_PASSES: usize = 6;
+
+/// Rooms for the records of all passes of a collection, each for so many moves, pins and freed pages.
+pub fn reserve_rooms(
+    alloc: Global,
+    moves: u32,
+    pins: usize,
+    freed: u32,
+) -> Result<Vec<RecordRoom>, Memory>
+    ensures rooms { IfOk result (λ rooms. AreRooms rooms.items moves pins freed) }
+    ensures six { IfOk result (λ rooms. vec_len rooms ≡ 6) }
+{
+    let mut rooms = Vec::with_capacity(alloc, MOST_PASSES)?;
+    for n in 0..MOST_PASSES {
+        rooms.push_reserved(RecordRoom::reserve(alloc, moves, pins, freed)?);
+    }
+    Ok(rooms)
 }
 
 /// Where a move goes; a stay goes nowhere.

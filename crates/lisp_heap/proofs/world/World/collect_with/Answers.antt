@@ -5,30 +5,34 @@ use Rattle.heap_terms.specs.declared.events.Event.TheVariants.{Collected}
 use Rattle.heap_terms.specs.declared.events.PassRecord.{PassRecord}
 use Rattle.std.proofs.lemmas.List.{length-map}
 use Rattle.lisp_heap.specs.CellsView.{with_exact_words}
-use Rattle.lisp_heap.specs.Recording.{HasRoom}
+use Rattle.lisp_heap.specs.AllPasses.{AreRooms}
 use Rattle.lisp_heap.specs.State.{state_closed, with_owed}
 use Rattle.lisp_heap.specs.declared.world.World.TheInside.{Inside}
-use Rattle.lisp_heap.proofs.CollectingWith.{can_make, exact_long, Written, sound_then, happens, agrees}
+use Rattle.lisp_heap.proofs.CollectingWith.{can_begin, exact_long, has_room, have_rooms, Written, sound_then, happens, agrees}
 use Rattle.lisp_heap.proofs.Soundness.{states_length}
 use Rattle.lisp_heap.proofs.WordReading.{thread_in}
 use Rattle.lisp_heap.proofs.world.World.collect_with.Given as given
 use Rattle.lisp_heap.proofs.world.World.collect_with.Goals as goal
 
-pub make_pass-record-requires : goal.make_pass-record-requires
-make_pass-record-requires g c =
+pub make_passes-requires : goal.make_passes-requires
+make_passes-requires g c =
     let s = c.self.inside in
     let ambiguous = c.gather.new.roots.ambiguous.items in
-    let fits : HasRoom c.in_ok-room.room s.commits (length ambiguous) (length s.pages) =
-    subst (λ (n : ℕ). HasRoom c.in_ok-room.room s.commits n (length s.pages)) (c.len-pinned.ensures ∙ omega (arith, c.gather.new.roots.ambiguous.ok))
-    (subst (λ (n : ℕ). HasRoom c.in_ok-room.room s.commits c.len-pinned.result n) c.len.ensures.value c.in_ok-room.ensures) in
-    can_make s c.self.invariant c.args.self.now c.self.view_is g.h c.requires.0 c.gather.new.roots.exact.items ambiguous c.args.scratch.now.room c.in_ok-room.room
-    c.in_ok-gather.ensures.exact c.in_ok-gather.ensures.ambiguous c.requires.1.1.1.1 fits
+    let fit : AreRooms c.in_ok-rooms.rooms.items s.commits (length ambiguous) (length s.pages) =
+    subst (λ (n : ℕ). AreRooms c.in_ok-rooms.rooms.items s.commits n (length s.pages)) (c.len-pinned.ensures ∙ omega (arith, c.gather.new.roots.ambiguous.ok))
+    (subst (λ (n : ℕ). AreRooms c.in_ok-rooms.rooms.items s.commits c.len-pinned.result n) c.len.ensures.value c.in_ok-rooms.ensures.rooms) in
+    (can_begin s c.self.invariant c.args.self.now c.self.view_is g.h c.requires.0 c.args.last c.gather.new.roots.exact.items ambiguous
+    c.in_ok-gather.ensures.exact c.in_ok-gather.ensures.ambiguous,
+    (has_room s c.self.invariant c.args.self.now c.self.view_is g.h c.requires.0 ambiguous c.args.scratch.now.room c.in_ok-gather.ensures.ambiguous c.requires.1.1.1.1,
+    (have_rooms s c.self.invariant c.args.self.now c.self.view_is g.h c.requires.0 c.in_ok-rooms.rooms.items ambiguous fit,
+    (c.in_ok-rooms.ensures.six, (c.in_ok-passes.ensures.items, omega (arith, c.in_ok-passes.ensures.capacity))))))
 
 pub rewrite-requires : goal.rewrite-requires
 rewrite-requires g c =
     let long = exact_long c.self.inside c.self.invariant c.args.self.now c.self.view_is g.h c.requires.0 c.args.t c.args.last c.requires.1.0 c.requires.1.1.0 c.requires.1.1.1.0
-    c.make_pass-record.result c.make_pass-record.new.space c.make_pass-record.new.pages c.make_pass-record.new.labels c.make_pass-record.new.scratch.roots.exact.items
-    c.make_pass-record.new.scratch.roots.ambiguous.items (c.make_pass-record.ensures.ambiguous ∙ c.in_ok-gather.ensures.ambiguous) c.make_pass-record.ensures.made in
+    c.make_passes.new.passes.items c.make_passes.new.space c.make_passes.new.pages c.make_passes.new.labels c.make_passes.new.scratch.roots.exact.items
+    c.make_passes.new.scratch.roots.ambiguous.items c.make_passes.new.stats (c.make_passes.ensures.ambiguous ∙ c.in_ok-gather.ensures.ambiguous) c.make_passes.ensures.stand
+    c.make_passes.ensures.passes in
     ap length c.as_slice.ensures.value ∙ long
 
 pub set_owed-requires : goal.set_owed-requires
@@ -42,29 +46,31 @@ abbrev fields : (g : given.Over) (c : goal.After-set_owed g) → Inside
 fields g c = record {
   alloc = c.self.inside.alloc;
   program = c.self.inside.program;
-  space = c.make_pass-record.new.space;
-  pages = c.make_pass-record.new.pages;
-  labels = c.make_pass-record.new.labels;
+  space = c.make_passes.new.space;
+  pages = c.make_passes.new.pages;
+  labels = c.make_passes.new.labels;
   cells = c.rewrite.new.self;
   states = c.set_owed.new.self;
   pins = c.self.inside.pins;
   commits = c.self.inside.commits;
+  stats = c.make_passes.new.stats;
+  counted = c.self.inside.counted;
+  triggered = c.self.inside.triggered;
   history = c.push.new.self;
   scratch = c.self.inside.scratch;
 }
 
 written : (g : given.Over) (c : goal.After-set_owed g) → Written c.self.inside c.self.invariant c.args.self.now c.self.view_is g.h c.requires.0 c.args.t c.args.last c.requires.1.0 c.requires.1.1.0 c.requires.1.1.1.0
-    c.make_pass-record.result c.make_pass-record.new.space c.make_pass-record.new.pages c.make_pass-record.new.labels c.make_pass-record.new.scratch.roots.exact.items
-    c.make_pass-record.new.scratch.roots.ambiguous.items (c.make_pass-record.ensures.ambiguous ∙ c.in_ok-gather.ensures.ambiguous) c.make_pass-record.ensures.made (fields g c)
+    c.make_passes.new.passes.items c.make_passes.new.space c.make_passes.new.pages c.make_passes.new.labels c.make_passes.new.scratch.roots.exact.items
+    c.make_passes.new.scratch.roots.ambiguous.items c.make_passes.new.stats (c.make_passes.ensures.ambiguous ∙ c.in_ok-gather.ensures.ambiguous) c.make_passes.ensures.stand
+    c.make_passes.ensures.passes (fields g c)
 written g c =
     let s = c.self.inside in
-    let one : c.from_vec.result ≡ c.make_pass-record.result ∷ [] = c.from_vec.ensures ∙ c.push_reserved.ensures.items
-    ∙ ap (λ (rs : List PassRecord). rs ++ c.make_pass-record.result ∷ []) c.in_ok-passes.ensures.items in
-    let added : c.push.new.self.items ≡ c.reserve-2.new.self.items ++ Collected c.args.t c.args.last c.from_vec.result ∷ [] = rw c.unwrap.ensures at c.push.ensures.items in
+    let added : c.push.new.self.items ≡ c.reserve.new.self.items ++ Collected c.args.t c.args.last c.from_vec.result ∷ [] = rw c.unwrap.ensures at c.push.ensures.items in
     record {
       program = refl;
-      history = added ∙ ap (λ (es : List Event). es ++ Collected c.args.t c.args.last c.from_vec.result ∷ []) c.reserve-2.ensures.items
-          ∙ ap (λ (rs : List PassRecord). s.history.items ++ Collected c.args.t c.args.last rs ∷ []) one;
+      history = added ∙ ap (λ (es : List Event). es ++ Collected c.args.t c.args.last c.from_vec.result ∷ []) c.reserve.ensures.items
+          ∙ ap (λ (rs : List PassRecord). s.history.items ++ Collected c.args.t c.args.last rs ∷ []) c.from_vec.ensures;
       space = refl;
       pages_are = refl;
       labels_are = refl;
@@ -72,26 +78,32 @@ written g c =
       states = c.set_owed.ensures ∙ ap (λ states. with_owed states c.args.t None) c.close_regions.ensures;
       pins = refl;
       commits = refl;
+      stats_are = refl;
+      counted = refl;
+      triggered = refl;
       scratch = c.self.invariant.scratch;
     }
 
 pub invariant_of-self-2 : goal.invariant_of-self-2
 invariant_of-self-2 g c =
     sound_then c.self.inside c.self.invariant c.args.self.now c.self.view_is g.h c.requires.0 c.args.t c.args.last c.requires.1.0 c.requires.1.1.0 c.requires.1.1.1.0
-    c.make_pass-record.result c.make_pass-record.new.space c.make_pass-record.new.pages c.make_pass-record.new.labels c.make_pass-record.new.scratch.roots.exact.items
-    c.make_pass-record.new.scratch.roots.ambiguous.items (c.make_pass-record.ensures.ambiguous ∙ c.in_ok-gather.ensures.ambiguous) c.make_pass-record.ensures.made
+    c.make_passes.new.passes.items c.make_passes.new.space c.make_passes.new.pages c.make_passes.new.labels c.make_passes.new.scratch.roots.exact.items
+    c.make_passes.new.scratch.roots.ambiguous.items c.make_passes.new.stats (c.make_passes.ensures.ambiguous ∙ c.in_ok-gather.ensures.ambiguous) c.make_passes.ensures.stand
+    c.make_passes.ensures.passes
     (fields g c) (written g c)
 
 pub returns-clause-ok : goal.returns-clause-ok
 returns-clause-ok g c =
     happens c.self.inside c.self.invariant c.args.self.now c.self.view_is g.h c.requires.0 c.args.t c.args.last c.requires.1.0 c.requires.1.1.0 c.requires.1.1.1.0
-    c.make_pass-record.result c.make_pass-record.new.space c.make_pass-record.new.pages c.make_pass-record.new.labels c.make_pass-record.new.scratch.roots.exact.items
-    c.make_pass-record.new.scratch.roots.ambiguous.items (c.make_pass-record.ensures.ambiguous ∙ c.in_ok-gather.ensures.ambiguous) c.make_pass-record.ensures.made
+    c.make_passes.new.passes.items c.make_passes.new.space c.make_passes.new.pages c.make_passes.new.labels c.make_passes.new.scratch.roots.exact.items
+    c.make_passes.new.scratch.roots.ambiguous.items c.make_passes.new.stats (c.make_passes.ensures.ambiguous ∙ c.in_ok-gather.ensures.ambiguous) c.make_passes.ensures.stand
+    c.make_passes.ensures.passes
     (fields g c) (written g c)
 
 pub returns-clause-agrees : goal.returns-clause-agrees
 returns-clause-agrees g c =
     agrees c.self.inside c.self.invariant c.args.self.now c.self.view_is g.h c.requires.0 c.args.t c.args.last c.requires.1.0 c.requires.1.1.0 c.requires.1.1.1.0
-    c.make_pass-record.result c.make_pass-record.new.space c.make_pass-record.new.pages c.make_pass-record.new.labels c.make_pass-record.new.scratch.roots.exact.items
-    c.make_pass-record.new.scratch.roots.ambiguous.items (c.make_pass-record.ensures.ambiguous ∙ c.in_ok-gather.ensures.ambiguous) c.make_pass-record.ensures.made
+    c.make_passes.new.passes.items c.make_passes.new.space c.make_passes.new.pages c.make_passes.new.labels c.make_passes.new.scratch.roots.exact.items
+    c.make_passes.new.scratch.roots.ambiguous.items c.make_passes.new.stats (c.make_passes.ensures.ambiguous ∙ c.in_ok-gather.ensures.ambiguous) c.make_passes.ensures.stand
+    c.make_passes.ensures.passes
     (fields g c) (written g c)

@@ -1,5 +1,5 @@
--- The pass is made over the heap with its regions closed.
+-- The passes are made over the heap with its regions closed.
 use Rattle.lisp_heap.proofs.world.World.collect_with.Given as goal
 
-abbrev pub ghost-make_pass : goal.ghost-make_pass
-ghost-make_pass g a = g.h
+abbrev pub ghost-make_passes : goal.ghost-make_passes
+ghost-make_passes g a = g.h
