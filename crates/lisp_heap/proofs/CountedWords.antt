@@ -1,5 +1,5 @@
 -- The words of a commit are counted: what a World keeps stands for the heap in which they are.
-use Rattle.std.proofs.Common.{◌≡◌, ℕ, ◌+◌, ◌<◌, List, length, map, Some, Bool, true, false, inl, inr, refl, sym, ◌∙◌, ap, subst, arith, get_or, set, length-set}
+use Rattle.std.proofs.Common.{◌≡◌, ℕ, ◌+◌, ◌<◌, List, length, map, Some, inl, inr, refl, sym, ◌∙◌, ap, arith, get_or, set, length-set}
 use Rattle.std.proofs.lemmas.Bool.{cases_Bool}
 use Rattle.std.proofs.lemmas.List.{set-set}
 use Rattle.std.specs.Prelude.{if◌then◌else◌, ◌==◌, unwrap_or}

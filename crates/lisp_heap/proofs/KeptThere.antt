@@ -1,5 +1,5 @@
 -- What a pass kept lies where its record says, with its size.
-use Rattle.std.proofs.Common.{◌≡◌, ◌≢◌, ℕ, ◌<◌, ◌≤◌, List, length, map, refl, sym, ◌∙◌, subst, ap, arith, get_or, Option, Some, None, true}
+use Rattle.std.proofs.Common.{◌≡◌, ◌≢◌, ℕ, ◌<◌, ◌≤◌, List, length, map, refl, sym, ◌∙◌, subst, ap, arith, get_or, Option, Some, true}
 use Rattle.std.proofs.lemmas.Bool.{eq-eqb, eqb-true, and_parts, or_left, or_right}
 use Rattle.std.proofs.lemmas.Bool.Decides.{Decides-eqb}
 use Rattle.std.proofs.lemmas.List.{length-map, get_or-map}
@@ -19,7 +19,7 @@ use Rattle.heap_terms.specs.LaidOut.{BeginsWith}
 use Rattle.heap_terms.specs.Layout.{size_of}
 use Rattle.heap_terms.specs.Objects.{Object, kind_of, payload_of, words_of_object}
 use Rattle.heap_terms.specs.Passes.{IsPass, after_pass, is_listed_pin, moved_to, remains, remains_at}
-use Rattle.heap_terms.specs.Roots.{is_hit, is_pinned}
+use Rattle.heap_terms.specs.Roots.{is_hit}
 use Rattle.heap_terms.specs.Stands.{SlotsStand, WordsStand}
 use Rattle.heap_terms.specs.WellFormed.{IsSound}
 use Rattle.lisp_heap.specs.Kept.{IsSizeAt, KeptLie, moved_size, pinned_size, place_then}

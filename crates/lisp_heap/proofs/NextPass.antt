@@ -1,12 +1,10 @@
 -- One pass more of a collection over the fields of a World.
-use Rattle.std.proofs.Common.{◌≡◌, ℕ, ◌+◌, ◌*◌, ◌<◌, ◌≤◌, List, length, refl, sym, ◌∙◌, subst, ap, arith, Bool, true, false, inl, inr}
+use Rattle.std.proofs.Common.{◌≡◌, ℕ, ◌+◌, ◌<◌, ◌≤◌, List, length, refl, sym, ◌∙◌, subst, ap, arith, true, inl, inr}
 use Rattle.std.proofs.lemmas.Bool.{cases_Bool}
-use Rattle.std.specs.Prelude.{IsTrue}
-use Rattle.collect_pass.specs.Pass.{CanPass, IsReservedFor, RoomView}
+use Rattle.collect_pass.specs.Pass.{IsReservedFor, RoomView}
 use Rattle.copy_space.specs.declared.notes.Pass.{Pass}
 use Rattle.generation_policy.specs.declared.stats.GenStats.{GenStats}
 use Rattle.generation_policy.specs.Numbers.{IsMeasurable, IsPossible, StatsStand}
-use Rattle.generation_policy.specs.Plan.{pass_over}
 use Rattle.heap_laws.proofs.SoundHeaps.{pass-numbers}
 use Rattle.heap_laws.specs.Numbers.{HasNumbers, most_passes}
 use Rattle.heap_terms.specs.declared.events.PassRecord.{PassRecord}
@@ -19,7 +17,7 @@ use Rattle.heap_terms.specs.WellFormed.{IsSound}
 use Rattle.pass_laws.proofs.AfterPages.{objects_long, pages_long}
 use Rattle.pass_laws.proofs.Collecting.{is_raised-low, pass_of-well_formed}
 use Rattle.pass_laws.specs.NoRegions.{IsEmptyBelow}
-use Rattle.trace_laws.specs.Rooted.{Rooted, RootsStand, StandFor}
+use Rattle.trace_laws.specs.Rooted.{Rooted, RootsStand}
 use Rattle.lisp_heap.specs.AllPasses.{IsNextPass, StandNow}
 use Rattle.lisp_heap.specs.Collecting.{CanMake, IsMade}
 use Rattle.lisp_heap.specs.Counted.{CanCount, counted_heap}

@@ -1,5 +1,5 @@
 -- One pass more among those of a collection.
-use Rattle.std.proofs.Common.{◌≡◌, ℕ, ◌+◌, ◌<◌, ◌≤◌, List, [], ◌∷◌, ◌++◌, length, refl, sym, ◌∙◌, subst, ap, arith, Bool, true, false, Option, Some, None, inl, inr}
+use Rattle.std.proofs.Common.{◌≡◌, ℕ, ◌+◌, ◌<◌, ◌≤◌, List, [], ◌∷◌, ◌++◌, length, refl, sym, ◌∙◌, subst, ap, arith, true, Option, Some, None, inl, inr}
 use Rattle.std.proofs.lemmas.Bool.{cases_Bool, cases_eq, eq-eqb, false≢true}
 use Rattle.std.proofs.lemmas.List.{length_push}
 use Rattle.std.specs.Prelude.{◌==◌, if◌then◌else◌}
@@ -7,12 +7,11 @@ use Rattle.copy_space.specs.declared.notes.Pass.{Pass}
 use Rattle.generation_policy.proofs.Loops.{after_one_more, last_one, one_more}
 use Rattle.generation_policy.specs.declared.stats.GenStats.{GenStats}
 use Rattle.generation_policy.specs.Plan.{pass_over, planned}
-use Rattle.generation_policy.specs.SoFar.{ArePassesSoFar}
 use Rattle.heap_terms.specs.declared.events.PassRecord.{PassRecord}
 use Rattle.heap_terms.specs.declared.pages.Entry.{Entry}
-use Rattle.heap_terms.specs.Collections.{ArePasses, IsPassOf, after_pass_of, after_passes, goes_on_after}
+use Rattle.heap_terms.specs.Collections.{IsPassOf, after_pass_of, after_passes, goes_on_after}
 use Rattle.heap_terms.specs.Heap.{NamedHeap}
-use Rattle.heap_terms.specs.Policy.{is_continued, is_raised, target_of}
+use Rattle.heap_terms.specs.Policy.{is_raised, target_of}
 use Rattle.heap_terms.specs.WellFormed.{IsSound}
 use Rattle.pass_laws.proofs.AfterPass.{remaining}
 use Rattle.pass_laws.proofs.Collecting.{is_continued-low, is_continued-raised}

@@ -1,5 +1,5 @@
 -- The policy's numbers around one pass of a collection.
-use Rattle.std.specs.Prelude.{◌≡◌, ℕ, ◌+◌, ◌*◌, ◌≤◌, ◌^◌, ◌==◌, length, if◌then◌else◌, slice_index}
+use Rattle.std.specs.Prelude.{◌≡◌, ℕ, ◌+◌, ◌≤◌, ◌^◌, ◌==◌, length, if◌then◌else◌, slice_index}
 use Rattle.copy_space.specs.declared.notes.Pass.{Pass}
 use Rattle.generation_policy.specs.declared.stats.GenStats.{GenStats}
 use Rattle.generation_policy.specs.Numbers.{IsPossible, StatsStand}

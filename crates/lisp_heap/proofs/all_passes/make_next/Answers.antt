@@ -1,8 +1,7 @@
 -- The pass can be made, and what it leaves stands.
-use Rattle.std.proofs.Common.{◌≡◌, ℕ, ◌+◌, ◌<◌, ◌++◌, [], ◌∷◌, length, sym, subst, arith, Some}
+use Rattle.std.proofs.Common.{◌+◌, length, subst, arith}
 use Rattle.std.proofs.lemmas.Option.{same_Some}
-use Rattle.copy_space.specs.declared.notes.Pass.{Pass}
-use Rattle.generation_policy.specs.Numbers.{IsMeasurable, IsPossible}
+use Rattle.generation_policy.specs.Numbers.{IsPossible}
 use Rattle.heap_terms.specs.Collections.{after_pass_of}
 use Rattle.lisp_heap.proofs.NextPass.{can_count, can_make, is_pass_of, measurable, possible, stepped}
 use Rattle.lisp_heap.proofs.all_passes.make_next.Goals as goal

@@ -1,6 +1,5 @@
 -- The passes so far were made, and the planned one follows.
 use Rattle.std.proofs.Common.{◌≡◌, ◌+◌, ◌≤◌, length, vec_len, vec_capacity}
-use Rattle.collect_pass.specs.Pass.{IsReservedFor}
 use Rattle.lisp_heap.specs.AllPasses.{AreRooms, IsPlanned, Stand}
 use Rattle.lisp_heap.proofs.PassesSoFar.{rooted_now}
 use Rattle.lisp_heap.proofs.all_passes.make_passes.Given as goal

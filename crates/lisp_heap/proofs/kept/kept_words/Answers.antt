@@ -1,8 +1,7 @@
 -- The objects that the record lists lie where it says.
-use Rattle.std.proofs.Common.{◌≡◌, ℕ, ◌+◌, ◌≤◌, List, length, sym, ◌∙◌, ap, subst, get_or}
-use Rattle.std.proofs.lemmas.List.Elements.{All-weaker, All-same}
+use Rattle.std.proofs.Common.{ℕ, ◌+◌, ◌≤◌, List, length, sym, ◌∙◌, ap, subst, get_or}
+use Rattle.std.proofs.lemmas.List.Elements.{All-same}
 use Rattle.std.specs.List.{sum_by}
-use Rattle.std.specs.Prelude.{All}
 use Rattle.heap_terms.specs.declared.events.PinAt.{PinAt}
 use Rattle.heap_terms.specs.declared.events.Placing.{Placing}
 use Rattle.heap_terms.specs.declared.limits.TheConstants.{MOST_COMMANDS}

@@ -1,9 +1,9 @@
 -- One move more.
-use Rattle.std.proofs.Common.{◌≡◌, ℕ, ◌+◌, length, sym, ◌∙◌, ap, arith, get_or, None, take_all, subst}
+use Rattle.std.proofs.Common.{◌≡◌, ℕ, sym, ◌∙◌, ap, arith, get_or, None, take_all, subst}
 use Rattle.std.proofs.lemmas.List.Sums.{sum_by_more}
 use Rattle.std.specs.List.{sum_by}
 use Rattle.heap_terms.specs.declared.events.Placing.{Placing}
-use Rattle.lisp_heap.specs.Kept.{HasSizeAt, IsSizeAt, place_then}
+use Rattle.lisp_heap.specs.Kept.{HasSizeAt, IsSizeAt}
 use Rattle.lisp_heap.proofs.kept.moved_words.Goals as goal
 
 pub size_at-requires : goal.size_at-requires

@@ -1,9 +1,8 @@
 -- One pin more.
-use Rattle.std.proofs.Common.{◌≡◌, ℕ, ◌+◌, length, sym, ◌∙◌, ap, arith, get_or, take_all, subst}
+use Rattle.std.proofs.Common.{◌≡◌, ◌∙◌, ap, arith, get_or, take_all}
 use Rattle.std.proofs.lemmas.List.Sums.{sum_by_more}
 use Rattle.std.specs.List.{sum_by}
 use Rattle.heap_terms.specs.declared.events.PinAt.{PinAt}
-use Rattle.lisp_heap.specs.Kept.{HasSizeAt, IsSizeAt}
 use Rattle.lisp_heap.proofs.kept.pinned_words.Goals as goal
 
 pub size_at-requires : goal.size_at-requires

@@ -6,7 +6,6 @@ use Rattle.heap_terms.specs.LaidOut.{BeginsWith}
 use Rattle.heap_terms.specs.Layout.{size_of}
 use Rattle.lisp_heap.specs.Kept.{IsSizeAt}
 use Rattle.object_walk.proofs.Walked.{first_read, payload_most, size_most}
-use Rattle.std.specs.Prelude.{slice_index}
 use Rattle.lisp_heap.proofs.kept.size_at.Goals as goal
 
 told : (c : goal.After-unwrap_or-kind) (size : ℕ) (at : IsSizeAt c.args.space.now c.args.index size) → c.unwrap_or-kind.result ≡ (at.kind, at.n)
