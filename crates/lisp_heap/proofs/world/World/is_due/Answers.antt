@@ -1,8 +1,6 @@
-use Rattle.std.proofs.Common.{◌≡◌, ◌<◌, length, sym, ap, ◌∙◌, subst, arith}
-use Rattle.std.specs.Prelude.{◌&&◌, not}
+use Rattle.std.proofs.Common.{ap, ◌∙◌, arith}
 use Rattle.std.specs.Option.{is_some}
 use Rattle.heap_terms.specs.Phases.{collects}
-use Rattle.lisp_heap.specs.State.{state_due}
 use Rattle.lisp_heap.specs.View.{View, next_of}
 use Rattle.lisp_heap.proofs.DueNext.{due_next}
 use Rattle.lisp_heap.proofs.Soundness.{heap, states_length}

@@ -1,5 +1,5 @@
 -- `stat` tells the numbers of a generation.
-use Rattle.std.proofs.Common.{◌≡◌, ℕ, ◌∙◌, ap, ap₂, subst, get_or}
+use Rattle.std.proofs.Common.{ℕ, ◌∙◌, ap, ap₂, subst, get_or}
 use Rattle.heap_terms.specs.declared.answers.Answer.TheVariants as answers
 use Rattle.heap_terms.specs.declared.commands.Command.TheVariants as commands
 use Rattle.heap_terms.specs.Generations.{allocated}
