@@ -39,21 +39,21 @@ module _ (p : Program) (b : NamedHeap) (t size : ℕ) where
   pub counting-same : IsSameBut
   counting-same = elim (cases_Bool (triggers p b size)) [
     | inl reached ↦ record {
-        objects = rw reached refl;
-        pages = rw reached refl;
-        cum = rw reached refl;
-        num = rw reached refl;
-        pins = rw reached (with_thread-pins b t asked refl);
-        threads = rw reached (length-set b.threads t asked);
-      }
+      objects = rw reached refl;
+      pages = rw reached refl;
+      cum = rw reached refl;
+      num = rw reached refl;
+      pins = rw reached (with_thread-pins b t asked refl);
+      threads = rw reached (length-set b.threads t asked);
+    }
     | inr below ↦ record {
-        objects = rw below refl;
-        pages = rw below refl;
-        cum = rw below refl;
-        num = rw below refl;
-        pins = rw below refl;
-        threads = rw below refl;
-      }
+      objects = rw below refl;
+      pages = rw below refl;
+      cum = rw below refl;
+      num = rw below refl;
+      pins = rw below refl;
+      threads = rw below refl;
+    }
   ]
 
   pub counting-counted : counted_after p.auto b.counted b.triggered size ≡ counted_heap.counted
