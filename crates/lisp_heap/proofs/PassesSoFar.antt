@@ -107,9 +107,10 @@ module _ (h : Rooted) (last : ℕ) (records : List PassRecord) (words : List ℕ
           is = refl;
           low = omega (arith, low);
           empty = raised_empty b last n r stand.stand.sound step.is_pass raised plan.1.empty;
-        } in
-        (one_more h.heap last 0 n records r (omega arith) plan.0 step.is_pass goes,
-        subst (λ (x : NamedHeap). IsNextPass x last (length (records ++ r ∷ [])) follows) (sym heap_more) (subst (λ (k : ℕ). IsNextPass c last k follows) (sym long) next))
+        } in (
+          one_more h.heap last 0 n records r (omega arith) plan.0 step.is_pass goes,
+          subst (λ (x : NamedHeap). IsNextPass x last (length (records ++ r ∷ [])) follows) (sym heap_more) (subst (λ (k : ℕ). IsNextPass c last k follows) (sym long) next),
+        )
 
     pub planned_more : (all : List PassRecord) → all ≡ records ++ r ∷ [] → IsPlanned h.heap last all plan_then
     planned_more all is = elim (cases_Bool (goes_on_after (after_passes h.heap last 0 records) last (length records) r)) [

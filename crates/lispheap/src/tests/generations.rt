@@ -5,12 +5,10 @@ use std::test::Fail;
 
 #[test]
 fn an_old_object_keeps_a_young_one_even_as_garbage(rt: HostRuntime) -> Result<(), Fail> {
-    for (input, journal) in [
-        (
-            "lispheap 1\nheap 4\nthread\nvector s0 1\ngc 0\ngc 0\ncons b0 b1 b1\nput s0 0 b0\nnil b0\ngc 0\nget b2 s0 0\nnil b2\nnil s0\ngc 0\npage 1\nend\n",
-            "0 open boxed 0 1\n0 vector s0 1 -> #0 @0\n0 gc 0 -> ok\n0 collect 0\npass 0 0\npin #0 @0\nswept 0 1\n0 gc 0 -> ok\n0 collect 0\npass 0 1\npin #0 @0\nswept 0 1\n0 open cons 1 1\n0 cons b0 b1 b1 -> #1 @512\n0 put s0 0 b0 -> ok\n0 nil b0 -> ok\n0 gc 0 -> ok\n0 collect 0\npass 0 0\nmove #1 @512 @1024\nfree 1\nswept 0 1\n0 get b2 s0 0 -> #1\n0 nil b2 -> ok\n0 nil s0 -> ok\n0 gc 0 -> ok\n0 collect 0\npass 0 1\nmove #1 @1024 @512\nfree 2\nswept 0 1\n0 page 1 -> cons g1 fill 2 #1@512\n0 end\ndone 19\n",
-        ),
-    ] {
+    for (input, journal) in [(
+        "lispheap 1\nheap 4\nthread\nvector s0 1\ngc 0\ngc 0\ncons b0 b1 b1\nput s0 0 b0\nnil b0\ngc 0\nget b2 s0 0\nnil b2\nnil s0\ngc 0\npage 1\nend\n",
+        "0 open boxed 0 1\n0 vector s0 1 -> #0 @0\n0 gc 0 -> ok\n0 collect 0\npass 0 0\npin #0 @0\nswept 0 1\n0 gc 0 -> ok\n0 collect 0\npass 0 1\npin #0 @0\nswept 0 1\n0 open cons 1 1\n0 cons b0 b1 b1 -> #1 @512\n0 put s0 0 b0 -> ok\n0 nil b0 -> ok\n0 gc 0 -> ok\n0 collect 0\npass 0 0\nmove #1 @512 @1024\nfree 1\nswept 0 1\n0 get b2 s0 0 -> #1\n0 nil b2 -> ok\n0 nil s0 -> ok\n0 gc 0 -> ok\n0 collect 0\npass 0 1\nmove #1 @1024 @512\nfree 2\nswept 0 1\n0 page 1 -> cons g1 fill 2 #1@512\n0 end\ndone 19\n",
+    )] {
         assert_replay(&rt, rt.alloc(), input.as_bytes(), 0, journal, "")?;
     }
     Ok(())
@@ -52,12 +50,10 @@ fn collections_go_on_as_asked_and_by_age(rt: HostRuntime) -> Result<(), Fail> {
 
 #[test]
 fn three_threads_share_a_list_over_two_generations(rt: HostRuntime) -> Result<(), Fail> {
-    for (input, journal) in [
-        (
-            "lispheap 1\nheap 8\nthread\nvector g0 2\ncons g1 b0 b0\nfix b1 11\nput g0 0 g1\ngc 0\nthread\ncons b0 b1 b1\ncons g2 b0 b0\nput g0 1 g2\ngc 1\nthread\nget s0 g0 0\nnil g1\ngc 1\npage 0\npage 1\nschedule 0*31 1*27\nend\n",
-            "0 open boxed 0 1\n0 vector g0 2 -> #0 @0\n0 open cons 1 1\n0 cons g1 b0 b0 -> #1 @512\n0 fix b1 11 -> ok\n0 put g0 0 g1 -> ok\n0 gc 0 -> ok\n0 collect 0\npass 0 0\nmove #0 @0 @1024\nmove #1 @512 @1536\nfree 0\nfree 1\nswept 0 2\n0 end\n1 open cons 0 1\n1 cons b0 b1 b1 -> #2 @0\n1 cons g2 b0 b0 -> #3 @2\n1 put g0 1 g2 -> ok\n1 gc 1 -> ok\n1 collect 1\npass 0 1\nmove #2 @0 @512\nmove #0 @1024 @2048\nmove #1 @1536 @514\nmove #3 @2 @516\nfree 0\nfree 2\nfree 3\nswept 0 4\npass 1 1\nmove #2 @512 @0\nmove #0 @2048 @1024\nmove #1 @514 @2\nmove #3 @516 @4\nfree 1\nfree 4\nswept 0 4\n1 end\n2 get s0 g0 0 -> #1\n2 nil g1 -> ok\n2 gc 1 -> ok\n2 collect 1\npass 0 1\nswept 0 0\npass 1 2\nmove #0 @1024 @512\nmove #3 @4 @1536\nmove #2 @0 @1538\npin #1 @2\nfree 2\nswept 0 4\n2 page 0 -> cons g2 fill 6 ~2@0 #1@2 ~2@4\n2 page 1 -> boxed g2 fill 4 #0@512\n2 end\ndone 23\n",
-        ),
-    ] {
+    for (input, journal) in [(
+        "lispheap 1\nheap 8\nthread\nvector g0 2\ncons g1 b0 b0\nfix b1 11\nput g0 0 g1\ngc 0\nthread\ncons b0 b1 b1\ncons g2 b0 b0\nput g0 1 g2\ngc 1\nthread\nget s0 g0 0\nnil g1\ngc 1\npage 0\npage 1\nschedule 0*31 1*27\nend\n",
+        "0 open boxed 0 1\n0 vector g0 2 -> #0 @0\n0 open cons 1 1\n0 cons g1 b0 b0 -> #1 @512\n0 fix b1 11 -> ok\n0 put g0 0 g1 -> ok\n0 gc 0 -> ok\n0 collect 0\npass 0 0\nmove #0 @0 @1024\nmove #1 @512 @1536\nfree 0\nfree 1\nswept 0 2\n0 end\n1 open cons 0 1\n1 cons b0 b1 b1 -> #2 @0\n1 cons g2 b0 b0 -> #3 @2\n1 put g0 1 g2 -> ok\n1 gc 1 -> ok\n1 collect 1\npass 0 1\nmove #2 @0 @512\nmove #0 @1024 @2048\nmove #1 @1536 @514\nmove #3 @2 @516\nfree 0\nfree 2\nfree 3\nswept 0 4\npass 1 1\nmove #2 @512 @0\nmove #0 @2048 @1024\nmove #1 @514 @2\nmove #3 @516 @4\nfree 1\nfree 4\nswept 0 4\n1 end\n2 get s0 g0 0 -> #1\n2 nil g1 -> ok\n2 gc 1 -> ok\n2 collect 1\npass 0 1\nswept 0 0\npass 1 2\nmove #0 @1024 @512\nmove #3 @4 @1536\nmove #2 @0 @1538\npin #1 @2\nfree 2\nswept 0 4\n2 page 0 -> cons g2 fill 6 ~2@0 #1@2 ~2@4\n2 page 1 -> boxed g2 fill 4 #0@512\n2 end\ndone 23\n",
+    )] {
         assert_replay(&rt, rt.alloc(), input.as_bytes(), 0, journal, "")?;
     }
     Ok(())

@@ -8,11 +8,12 @@ use Rattle.lisp_heap.proofs.all_passes.make_next.Goals as goal
 
 pub make_counted_pass-made-requires : goal.make_counted_pass-made-requires
 make_counted_pass-made-requires g c =
-    let n = length c.args.passes.now.items in
-    (can_make g.h c.args.last n c.args.pass c.args.space.now c.args.pages.now c.args.labels.now c.args.scratch.now.roots.exact.items c.args.scratch.now.roots.ambiguous.items c.args.stats.now
-    c.requires.0 c.requires.1.0 c.args.scratch.now.room c.args.room c.requires.1.1.0 c.requires.1.1.1.0,
-    can_count g.h c.args.last n c.args.pass c.args.space.now c.args.pages.now c.args.labels.now c.args.scratch.now.roots.exact.items c.args.scratch.now.roots.ambiguous.items c.args.stats.now
-    c.requires.0 c.requires.1.0)
+    let n = length c.args.passes.now.items in (
+      can_make g.h c.args.last n c.args.pass c.args.space.now c.args.pages.now c.args.labels.now c.args.scratch.now.roots.exact.items c.args.scratch.now.roots.ambiguous.items c.args.stats.now
+          c.requires.0 c.requires.1.0 c.args.scratch.now.room c.args.room c.requires.1.1.0 c.requires.1.1.1.0,
+      can_count g.h c.args.last n c.args.pass c.args.space.now c.args.pages.now c.args.labels.now c.args.scratch.now.roots.exact.items c.args.scratch.now.roots.ambiguous.items c.args.stats.now
+          c.requires.0 c.requires.1.0,
+    )
 
 pub plan_next-requires-clause-possible : goal.plan_next-requires-clause-possible
 plan_next-requires-clause-possible g c x same =
@@ -35,11 +36,14 @@ returns-clause-stepped g c =
     let made = c.make_counted_pass-made in
     let stand = stepped g.h c.args.last n c.args.pass c.args.space.now c.args.pages.now c.args.labels.now c.args.scratch.now.roots.exact.items c.args.scratch.now.roots.ambiguous.items
     c.args.stats.now c.requires.0 c.requires.1.0 made.result made.new.space made.new.pages made.new.labels made.new.scratch.roots.exact.items made.new.scratch.roots.ambiguous.items
-    made.new.stats made.ensures.made made.ensures.numbers in
-    (made.result, c.push_reserved.ensures.items, record {
-      is_pass = is_pass_of g.h c.args.last n c.args.pass c.args.space.now c.args.pages.now c.args.labels.now c.args.scratch.now.roots.exact.items c.args.scratch.now.roots.ambiguous.items
-          c.args.stats.now c.requires.0 c.requires.1.0 made.result made.new.space made.new.pages made.new.labels made.new.scratch.roots.exact.items made.new.scratch.roots.ambiguous.items
-          made.new.stats made.ensures.made made.ensures.numbers;
-      stand = stand;
-      plan_is = c.plan_next.ensures.planned (after_pass_of g.h.heap c.args.last n made.result) stand.counted;
-    })
+    made.new.stats made.ensures.made made.ensures.numbers in (
+      made.result,
+      c.push_reserved.ensures.items,
+      record {
+        is_pass = is_pass_of g.h c.args.last n c.args.pass c.args.space.now c.args.pages.now c.args.labels.now c.args.scratch.now.roots.exact.items c.args.scratch.now.roots.ambiguous.items
+            c.args.stats.now c.requires.0 c.requires.1.0 made.result made.new.space made.new.pages made.new.labels made.new.scratch.roots.exact.items made.new.scratch.roots.ambiguous.items
+            made.new.stats made.ensures.made made.ensures.numbers;
+        stand = stand;
+        plan_is = c.plan_next.ensures.planned (after_pass_of g.h.heap c.args.last n made.result) stand.counted;
+      },
+    )

@@ -58,9 +58,10 @@ make_next-planned-requires g c =
     let room : HasRoom c.unwrap-room.result (length b.objects) (length l.scratch.roots.ambiguous.items) (length b.pages) =
     subst (λ (n : ℕ). HasRoom c.unwrap-room.result n (length l.scratch.roots.ambiguous.items) (length b.pages)) (sym inv.stand.objects_long)
     (subst (λ (n : ℕ). HasRoom c.unwrap-room.result (length g.h.heap.objects) (length l.scratch.roots.ambiguous.items) n) (sym inv.stand.pages_long)
-    (subst (λ (n : ℕ). HasRoom c.unwrap-room.result (length g.h.heap.objects) n (length g.h.heap.pages)) (sym (ap (λ (ws : List ℕ). length ws) inv.ambiguous)) fits)) in
-    (stand_now g.h c.args.last l.passes.items l.space l.pages l.labels l.scratch.roots.exact.items l.scratch.roots.ambiguous.items l.stats inv.stand,
-    (plan.1, (reserved, (room, omega (arith, inv.capacity, plan.1.low, l.passes.ok)))))
+    (subst (λ (n : ℕ). HasRoom c.unwrap-room.result (length g.h.heap.objects) n (length g.h.heap.pages)) (sym (ap (λ (ws : List ℕ). length ws) inv.ambiguous)) fits)) in (
+      stand_now g.h c.args.last l.passes.items l.space l.pages l.labels l.scratch.roots.exact.items l.scratch.roots.ambiguous.items l.stats inv.stand,
+      (plan.1, (reserved, (room, omega (arith, inv.capacity, plan.1.low, l.passes.ok)))),
+    )
 
 pub loop-planned-preserved : goal.loop-planned-preserved
 loop-planned-preserved g c =

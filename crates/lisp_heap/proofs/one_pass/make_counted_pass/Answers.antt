@@ -9,10 +9,11 @@ use Rattle.lisp_heap.proofs.one_pass.make_counted_pass.Goals as goal
 
 pub kept_words-kept-requires : goal.kept_words-kept-requires
 kept_words-kept-requires g c =
-    let made = c.make_pass-made.ensures.made in
-    (g.h.heap,
-    kept_lie g.h.heap c.args.pass.generation (target_of c.args.pass.generation c.args.pass.raise) c.make_pass-made.result c.requires.0.can.stand.sound made.is_pass
-    c.make_pass-made.new.space made.stand.sound made.stand.words_stand made.moved c.requires.1.few)
+    let made = c.make_pass-made.ensures.made in (
+      g.h.heap,
+      kept_lie g.h.heap c.args.pass.generation (target_of c.args.pass.generation c.args.pass.raise) c.make_pass-made.result c.requires.0.can.stand.sound made.is_pass
+          c.make_pass-made.new.space made.stand.sound made.stand.words_stand made.moved c.requires.1.few,
+    )
 
 pub returns-clause-numbers : goal.returns-clause-numbers
 returns-clause-numbers g c =

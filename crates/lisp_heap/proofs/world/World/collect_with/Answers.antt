@@ -20,12 +20,17 @@ make_passes-requires g c =
     let ambiguous = c.gather.new.roots.ambiguous.items in
     let fit : AreRooms c.in_ok-rooms.rooms.items s.commits (length ambiguous) (length s.pages) =
     subst (λ (n : ℕ). AreRooms c.in_ok-rooms.rooms.items s.commits n (length s.pages)) (c.len-pinned.ensures ∙ omega (arith, c.gather.new.roots.ambiguous.ok))
-    (subst (λ (n : ℕ). AreRooms c.in_ok-rooms.rooms.items s.commits c.len-pinned.result n) c.len.ensures.value c.in_ok-rooms.ensures.rooms) in
-    (can_begin s c.self.invariant c.args.self.now c.self.view_is g.h c.requires.0 c.args.last c.gather.new.roots.exact.items ambiguous
-    c.in_ok-gather.ensures.exact c.in_ok-gather.ensures.ambiguous,
-    (has_room s c.self.invariant c.args.self.now c.self.view_is g.h c.requires.0 ambiguous c.args.scratch.now.room c.in_ok-gather.ensures.ambiguous c.requires.1.1.1.1,
-    (have_rooms s c.self.invariant c.args.self.now c.self.view_is g.h c.requires.0 c.in_ok-rooms.rooms.items ambiguous fit,
-    (c.in_ok-rooms.ensures.six, (c.in_ok-passes.ensures.items, omega (arith, c.in_ok-passes.ensures.capacity))))))
+    (subst (λ (n : ℕ). AreRooms c.in_ok-rooms.rooms.items s.commits c.len-pinned.result n) c.len.ensures.value c.in_ok-rooms.ensures.rooms) in (
+      can_begin s c.self.invariant c.args.self.now c.self.view_is g.h c.requires.0 c.args.last c.gather.new.roots.exact.items ambiguous
+          c.in_ok-gather.ensures.exact c.in_ok-gather.ensures.ambiguous,
+      (
+        has_room s c.self.invariant c.args.self.now c.self.view_is g.h c.requires.0 ambiguous c.args.scratch.now.room c.in_ok-gather.ensures.ambiguous c.requires.1.1.1.1,
+        (
+          have_rooms s c.self.invariant c.args.self.now c.self.view_is g.h c.requires.0 c.in_ok-rooms.rooms.items ambiguous fit,
+          (c.in_ok-rooms.ensures.six, (c.in_ok-passes.ensures.items, omega (arith, c.in_ok-passes.ensures.capacity))),
+        ),
+      ),
+    )
 
 pub rewrite-requires : goal.rewrite-requires
 rewrite-requires g c =
