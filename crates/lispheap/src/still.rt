@@ -219,5 +219,8 @@ fn run_with_steps(alloc: Global, program: Program) -> Result<Vec<u8>, Memory>
     ensures { IfOk result (λ text. IsJournalOf true program text.items) }
 {
     let replay = run_schedule(alloc, program)?;
-    print_words(alloc, replay.lines.as_slice(), replay.world.history())
+    let text = print_words(alloc, replay.lines.as_slice(), replay.world.history());
+    // For the same reason.
+    forget(replay);
+    text
 }
