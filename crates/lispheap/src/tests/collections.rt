@@ -1,5 +1,5 @@
-//! Scripts with collections against their journals. The values are worked by hand; that no object is
-//! lost or moved wrongly in longer ones is what the headline says.
+//! Scripts with collections against their journals. The shorter ones were worked by hand beforehand; the
+//! others are what this program and a second one both gave, and show changes rather than what is right.
 
 use super::{WHOLE, assert_replay, outcome_of};
 use journal_text::{parse, print};

@@ -1,4 +1,5 @@
-//! Scripts whose collections promote, against their journals. The values are worked by hand.
+//! Scripts whose collections promote, against their journals. The first of two tests were worked by hand
+//! beforehand; the others are what a second program gave.
 
 use super::assert_replay;
 use std::test::Fail;
