@@ -133,10 +133,10 @@ module _ (s : Inside) (i : IsSound s) (w : View) (view : view_of s ≡ w) (h : R
         (subst (λ (v : View). (u : ℕ) → (thread_at (heap_of v) u).inhibits ≡ 0) (sym view) allowed) are
 
     abbrev parts : Parts
-    parts = parts_then s.program (heap s) (parts_of s) wf i.holds t last records here are words pages labels exact stats made_here.stand made_here.named made_here.counted made_here.objects_long
+    parts = parts_then s.program (heap s) (parts_of s) wf i.holds t last records here are words pages labels exact stats made_here.stand made_here.named made_here.counted made_here.objects_long (replay-strong s.program s.history.items i.valid i.lawful).finalizers
 
     held : Holds (after s.program (heap s) event) parts
-    held = collected_holds s.program (heap s) (parts_of s) wf i.holds t last records here are words pages labels exact stats made_here.stand made_here.named made_here.counted made_here.objects_long
+    held = collected_holds s.program (heap s) (parts_of s) wf i.holds t last records here are words pages labels exact stats made_here.stand made_here.named made_here.counted made_here.objects_long (replay-strong s.program s.history.items i.valid i.lawful).finalizers
 
     -- the fields of a World to which all that was written
     pub record Written (x : Inside) : Type 0 where
@@ -152,12 +152,13 @@ module _ (s : Inside) (i : IsSound s) (w : View) (view : view_of s ≡ w) (h : R
       pub stats_are : x.stats ≡ stats
       pub counted : x.counted ≡ s.counted
       pub triggered : x.triggered ≡ s.triggered
+      pub finalizers : x.finalizers ≡ s.finalizers
       pub scratch : ForSome x.scratch (IsRoomFor x.program)
 
     pub sound_then : (x : Inside) → Written x → IsSound x
     sound_then x f =
         sound_after s x event i f.program f.history is_next f.scratch
-        (Holds-same (after s.program (heap s) event) parts (parts_of x) f.space f.pages_are f.labels_are f.cells f.states f.pins f.commits f.stats_are f.counted f.triggered held)
+        (Holds-same (after s.program (heap s) event) parts (parts_of x) f.space f.pages_are f.labels_are f.cells f.states f.pins f.commits f.stats_are f.counted f.triggered f.finalizers held)
 
     pub happens : (x : Inside) → Written x → Happens t w (view_of x)
     happens x f = happens_after s x w t event view f.program f.history refl is_next (sound_then x f)

@@ -5,6 +5,7 @@ pub mod SlotChanges
 pub mod PutLemmas
 pub mod CommitLemmas
 pub mod Unchanged
+pub mod FinalizersKept
 pub mod PerformLemmas
 pub mod Soundness
 pub mod WordReading

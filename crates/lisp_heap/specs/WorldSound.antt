@@ -23,6 +23,7 @@ parts_of s = record {
   stats = s.stats;
   counted = s.counted;
   triggered = s.triggered;
+  finalizers = s.finalizers;
 }
 
 abbrev pub view_of : Inside → View

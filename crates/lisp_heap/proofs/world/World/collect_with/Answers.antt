@@ -61,6 +61,7 @@ fields g c = record {
   stats = c.make_passes.new.stats;
   counted = c.self.inside.counted;
   triggered = c.self.inside.triggered;
+  finalizers = c.self.inside.finalizers;
   history = c.push.new.self;
   scratch = c.self.inside.scratch;
 }
@@ -86,6 +87,7 @@ written g c =
       stats_are = refl;
       counted = refl;
       triggered = refl;
+      finalizers = refl;
       scratch = c.self.invariant.scratch;
     }
 
