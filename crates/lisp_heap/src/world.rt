@@ -353,6 +353,14 @@ impl World {
                 let plan = self.told(t as usize, g);
                 self.carry_out(t, command, plan)
             }
+            Command::WeakVal { d, c } => {
+                let plan = self.weak_read(t as usize, d, c);
+                self.carry_out(t, command, plan)
+            }
+            Command::TableCount { c } => {
+                let plan = self.pairs_counted(t as usize, c);
+                self.carry_out(t, command, plan)
+            }
             // These allocate.
             Command::NewCons { .. }
             | Command::NewVector { .. }
@@ -362,11 +370,9 @@ impl World {
             | Command::NewWeak { .. }
             | Command::NewTable { .. } => unreachable!(),
             // These are not built yet.
-            Command::WeakVal { .. }
-            | Command::TablePut { .. }
+            Command::TablePut { .. }
             | Command::TableGet { .. }
             | Command::TableRem { .. }
-            | Command::TableCount { .. }
             | Command::Finalize { .. }
             | Command::Cancel { .. }
             | Command::RunFinalizers => unreachable!(),
@@ -375,7 +381,7 @@ impl World {
 
     /// Thread t's command is answered, and the word that it changes is written.
     #[inline(always)]
-    fn carry_out(&mut self, t: u32, command: Command, plan: Plan) -> Result<(), Memory>
+    pub(crate) fn carry_out(&mut self, t: u32, command: Command, plan: Plan) -> Result<(), Memory>
         requires thread { t < length self.old.program.threads }
         requires command { command_at self.old.program (heap_of self.old) t ≡ Some command }
         requires simple { next_of self.old t ≡ Next.Simple }
