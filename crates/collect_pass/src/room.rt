@@ -40,12 +40,7 @@ impl Model for PassRoom {
 impl PassRoom {
     /// Room for passes over a heap of so many pages, with at most so many ambiguous roots and at most
     /// so many weak pointers and tables. It is refused only for want of memory.
-    pub fn reserve(
-        alloc: Global,
-        pages: u32,
-        ambiguous: u32,
-        weak: u32,
-    ) -> Result<PassRoom, Memory>
+    pub fn reserve(alloc: Global, pages: u32, ambiguous: u32, weak: u32) -> Result<PassRoom, Memory>
         requires { pages ≤ MOST_PAGES }
         ensures { IfOk result (λ room. IsReservedFor room pages ambiguous weak) }
     {
@@ -69,12 +64,7 @@ impl PassRoom {
 
 /// Notes with room for a move of every double word, for a pin for each ambiguous root, for every
 /// page, for all pairs of so many tables, and for as many broken weak pointers.
-fn reserve_notes(
-    alloc: Global,
-    pages: u32,
-    ambiguous: u32,
-    weak: u32,
-) -> Result<PassNotes, Memory>
+fn reserve_notes(alloc: Global, pages: u32, ambiguous: u32, weak: u32) -> Result<PassNotes, Memory>
     requires { pages ≤ MOST_PAGES }
     ensures { IfOk result (λ notes. AreNotesFor notes pages ambiguous weak) }
 {
