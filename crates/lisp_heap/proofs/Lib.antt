@@ -33,8 +33,9 @@ pub mod Starting
 pub mod Ending
 pub mod Leasing
 pub mod Relabelling
-pub mod NothingWeak
-pub mod StrongHeaps
+pub mod NoFinalizers
+pub mod RecordSizing
+pub mod WeakNoted
 pub mod Recorded
 pub mod FlatCells
 pub mod ExactRoots

@@ -96,7 +96,7 @@ raws_same (WordsOf old) ws = omega arith
 raws_same (WeakTo w) ws = omega arith
 raws_same (TableOf w b pairs) ws = omega arith
 
-filter_few : {X : Type 0} (p : X → Bool) (xs : List X) → length (filter p xs) ≤ length xs
+pub filter_few : {X : Type 0} (p : X → Bool) (xs : List X) → length (filter p xs) ≤ length xs
 filter_few p xs = (let both = length-filter_both p (λ x. not (p x)) (λ x. refl) xs in omega (arith, both))
 
 with_pair_few : (pairs : List (Value × Value)) (k v : Value) → length (with_pair pairs k v) ≤ length pairs + 1
