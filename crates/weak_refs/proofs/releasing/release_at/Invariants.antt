@@ -6,8 +6,8 @@ use Rattle.weak_refs.proofs.releasing.release_at.Given as goal
 abbrev pub ghost-ready_side : goal.ghost-ready_side
 ghost-ready_side g a = g.a
 
-abbrev pub invariant-loop-next : goal.invariant-loop-next
-invariant-loop-next g l = record {
+abbrev pub invariant-loop : goal.invariant-loop
+invariant-loop g l = record {
   readies : Readies g.a (state l.fn.copier) (state l.copier);
   same : IsSameCopier l.fn.copier l.copier;
 }
