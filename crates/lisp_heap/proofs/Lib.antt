@@ -17,6 +17,8 @@ pub mod Rooms
 pub mod Wanted
 pub mod Nexts
 pub mod Stepping
+pub mod FinalizerSteps
+pub mod FinalizerPlans
 pub mod Agreeing
 pub mod Wishing
 pub mod Elsewhere

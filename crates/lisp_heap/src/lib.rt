@@ -13,6 +13,7 @@ mod collecting;
 mod committing;
 mod counting;
 mod due;
+mod finalizer_commands;
 mod field_commands;
 mod inhibit_commands;
 mod kept;

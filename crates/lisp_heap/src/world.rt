@@ -375,7 +375,7 @@ impl World {
 
     /// Thread t's command is answered, and the word that it changes is written.
     #[inline(always)]
-    fn carry_out(&mut self, t: u32, command: Command, plan: Plan) -> Result<(), Memory>
+    pub(crate) fn carry_out(&mut self, t: u32, command: Command, plan: Plan) -> Result<(), Memory>
         requires thread { t < length self.old.program.threads }
         requires command { command_at self.old.program (heap_of self.old) t ≡ Some command }
         requires simple { next_of self.old t ≡ Next.Simple }
