@@ -54,3 +54,10 @@ pub mod KeptThere
 pub mod CountedThere
 pub mod NextPass
 pub mod PassesSoFar
+pub mod TableSlots
+pub mod KeyedPairs
+pub mod ObjectChanges
+pub mod TablesHere
+pub mod TableSteps
+pub mod TablePlans
+pub mod TableReading

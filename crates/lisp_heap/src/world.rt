@@ -353,6 +353,17 @@ impl World {
                 let plan = self.told(t as usize, g);
                 self.carry_out(t, command, plan)
             }
+            Command::WeakVal { d, c } => {
+                let plan = self.weak_read(t as usize, d, c);
+                self.carry_out(t, command, plan)
+            }
+            Command::TableCount { c } => {
+                let plan = self.pairs_counted(t as usize, c);
+                self.carry_out(t, command, plan)
+            }
+            Command::Finalize { c, id } => self.finalized(t, command, c, id),
+            Command::Cancel { c } => self.cancelled(t, command, c),
+            Command::RunFinalizers => self.ran(t, command),
             // These allocate.
             Command::NewCons { .. }
             | Command::NewVector { .. }
@@ -362,14 +373,9 @@ impl World {
             | Command::NewWeak { .. }
             | Command::NewTable { .. } => unreachable!(),
             // These are not built yet.
-            Command::WeakVal { .. }
-            | Command::TablePut { .. }
+            Command::TablePut { .. }
             | Command::TableGet { .. }
-            | Command::TableRem { .. }
-            | Command::TableCount { .. }
-            | Command::Finalize { .. }
-            | Command::Cancel { .. }
-            | Command::RunFinalizers => unreachable!(),
+            | Command::TableRem { .. } => unreachable!(),
         }
     }
 
