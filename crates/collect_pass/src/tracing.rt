@@ -37,16 +37,28 @@ pub(crate) fn trace(
     pass: Pass,
     exact: &mut [u64],
     notes: &mut PassNotes,
+    weak: &mut PinSet,
 )
     ghost h: { Rooted }
-    requires { CanTrace h space.old pages.old marks.old pins.now.listed pass exact.old notes.old }
+    requires { CanTrace h space.old pages.old marks.old pins.now.listed pass exact.old notes.old weak.old }
     ensures traced { IsTraced h (end_state h.heap space.new pages.new marks.new pins.now.listed pass notes.new.moves.items) exact.new }
-    ensures notes { SameButMoves notes.old notes.new }
-    ensures room { vec_capacity notes.new.moves ≡ vec_capacity notes.old.moves }
+    ensures notes { AreTraceNotes h.heap (is_settled h.heap (end_state h.heap space.new pages.new marks.new pins.now.listed pass notes.new.moves.items)) notes.old notes.new }
+    ensures most { weak.new.most ≡ weak.old.most }
 {
     let mut copier = Copier::new(space, pages, marks, pins, pass, notes);
     evacuate_roots(&mut copier, exact);
-    scavenge_older(&mut copier);
+    scavenge_older(&mut copier, weak);
+    settle_all(&mut copier, weak);
+    cull(weak, &mut copier);
+    break_dead(weak, &mut copier);
+}
+
+/// Scans what is settled and settles what that and the pairs of tables keep, until nothing is left.
+fn settle_all(copier: &mut Copier, weak: &mut PinSet)
+{
     let nothing = Scanned { pins: 0, moves: 0 };
-    scavenge_all(&mut copier, nothing);
+    let mut done = scavenge_all(copier, weak, nothing);
+    while ready_entries(weak, copier) {
+        done = scavenge_all(copier, weak, done);
+    }
 }
