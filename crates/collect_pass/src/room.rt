@@ -7,7 +7,7 @@ ghost use Rattle.collect_pass.specs.Room.{AreNotesFor};
 
 use ambiguous_roots::Hints;
 use copy_space::{Marks, PassNotes};
-use heap_terms::{Memory, PAGE_WORDS};
+use heap_terms::{MOST_PAIRS, Memory, PAGE_WORDS};
 use page_sweep::HeldPages;
 use pin_set::PinSet;
 use std::alloc::Global;
@@ -67,9 +67,6 @@ impl PassRoom {
     }
 }
 
-/// How many pairs a table has, at most.
-const MOST_PAIRS: usize = 64;
-
 /// Notes with room for a move of every double word, for a pin for each ambiguous root, for every
 /// page, for all pairs of so many tables, and for as many broken weak pointers.
 fn reserve_notes(
@@ -86,7 +83,7 @@ fn reserve_notes(
         target: 0,
         moves: Vec::with_capacity(alloc, (PAGE_WORDS / 2 * pages) as usize)?,
         pins: Vec::with_capacity(alloc, ambiguous as usize)?,
-        culls: Vec::with_capacity(alloc, MOST_PAIRS * weak as usize)?,
+        culls: Vec::with_capacity(alloc, MOST_PAIRS as usize * weak as usize)?,
         breaks: Vec::with_capacity(alloc, weak as usize)?,
         queued: Vec::new(alloc),
         freed: Vec::with_capacity(alloc, pages as usize)?,
