@@ -19,6 +19,7 @@ use Rattle.pass_laws.proofs.Spreading.{IsMoveOf}
 use Rattle.copy_space.specs.declared.marks.Mark.{Mark}
 use Rattle.copy_space.specs.declared.notes.Move.{Move}
 use Rattle.copy_space.specs.declared.notes.Pass.{Pass}
+use Rattle.copy_space.specs.declared.notes.PassNotes.{PassNotes}
 use Rattle.copy_space.specs.declared.placing.PagesInUse.{PagesInUse}
 use Rattle.copy_space.specs.Midway.{IsPlacedSoFar, StandsMidway}
 use Rattle.copy_space.specs.Moved.{noted}
@@ -29,7 +30,7 @@ use Rattle.copy_space.proofs.Referents.{ms, its}
 use Rattle.trace_laws.specs.Rooted.{Rooted}
 use Rattle.trace_laws.specs.Traced.{IsTraced}
 use Rattle.trace_laws.proofs.Moves.{moves-named}
-use Rattle.collect_pass.specs.Tracing.{begins_at, name_at, moved_names, in_use_after, end_state}
+use Rattle.collect_pass.specs.Tracing.{AreTraceNotes, begins_at, name_at, moved_names, in_use_after, end_state}
 
 -- the only number of a range that passes a test is found
 find-only : (p : ℕ → Bool) (from n x : ℕ) → p x ≡ true → from ≤ x → x < from + n → ((y : ℕ) → p y ≡ true → y ≡ x) → find p (range_with_len from n) ≡ Some x
@@ -117,3 +118,11 @@ unfolding end_state
 settled-end a s words pages marks pins pass moves marks_are pass_is =
     subst (λ (m : List Mark). is_settled a (end_state a words pages m pins pass moves) ≡ is_settled a s) (sym marks_are)
     (subst (λ (p : Pass). is_settled a (end_state a words pages s.marks pins p moves) ≡ is_settled a s) (sym pass_is) refl)
+
+pub told-end : (a : NamedHeap) (z u : CopyState) (words : List ℕ) (pages : List Entry) (marks : List Mark) (pins : List ℕ) (pass : Pass) (moves : List Move) (old ended new : PassNotes) →
+    AreTraceNotes a (is_settled a z) old ended → u ≡ record z { words = u.words } → marks ≡ u.marks → pass ≡ u.pass → new ≡ ended →
+    AreTraceNotes a (is_settled a (end_state a words pages marks pins pass moves)) old new
+told-end a z u words pages marks pins pass moves old ended new told same marks_are pass_is notes_are =
+    let live : is_settled a u ≡ is_settled a z = subst (λ (x : CopyState). is_settled a x ≡ is_settled a z) (sym same) refl in
+    subst (λ (n : PassNotes). AreTraceNotes a (is_settled a (end_state a words pages marks pins pass moves)) old n) (sym notes_are)
+    (subst (λ (set : ℕ → Bool). AreTraceNotes a set old ended) (sym (settled-end a u words pages marks pins pass moves marks_are pass_is ∙ live)) told)

@@ -1,6 +1,6 @@
 -- The end of tracing: after tables are culled and weak pointers broken the words of each settled object stand for what
 -- survives of it, and the notes tell of all weak pointers and tables that are settled.
-use Rattle.std.proofs.Common.{◌≡◌, ◌≢◌, ℕ, ◌+◌, ◌*◌, ◌<◌, ◌≤◌, List, length, map, get_or, Option, Some, None, Bool, true, false, nat_eq, inl, inr, refl, sym, ◌∙◌, ap, subst, arith, vec_len, vec_capacity}
+use Rattle.std.proofs.Common.{◌≡◌, ◌≢◌, ℕ, ◌+◌, ◌*◌, ◌<◌, ◌≤◌, List, [], ◌++◌, length, map, get_or, Option, Some, None, Bool, true, false, nat_eq, inl, inr, refl, sym, ◌∙◌, ap, subst, arith, vec_len, vec_capacity}
 use Rattle.std.proofs.lemmas.Bool.{cases_Bool, eq-eqb, false≢true}
 use Rattle.std.proofs.lemmas.List.{get_or_default}
 use Rattle.std.proofs.lemmas.List.Folds.{list_any_at}
@@ -15,11 +15,12 @@ use Rattle.heap_terms.specs.Stands.{KeptStand, SlotsStand, StandsFor}
 use Rattle.heap_terms.specs.Survival.{surviving}
 use Rattle.copy_space.specs.CullNotes.{broken_of, culled_of}
 use Rattle.copy_space.specs.Midway.{Midway}
+use Rattle.copy_space.specs.Notes.{SameButMoves}
 use Rattle.copy_space.specs.Moved.{new_of, objects_now}
 use Rattle.copy_space.specs.Settled.{is_settled, word_now}
 use Rattle.copy_space.specs.State.{CopyState}
 use Rattle.copy_space.specs.Surviving.{StandsAfter}
-use Rattle.copy_space.specs.WeakNames.{AreWeakNames, is_weak, weak_count}
+use Rattle.copy_space.specs.WeakNames.{AreNamed, AreWeakNames, is_weak, weak_count}
 use Rattle.copy_space.specs.declared.notes.PassNotes.{PassNotes}
 use Rattle.copy_space.proofs.Shapes.{slot-below}
 use Rattle.pin_set.specs.Starts.{Starts}
@@ -27,14 +28,16 @@ use Rattle.scavenge.specs.Noting.{CanNote}
 use Rattle.scavenge.proofs.NotedStarts.{NamedStarts, kind-by_weak, named-starts, names-once, starts-few, weak-by_kind}
 use Rattle.trace_laws.specs.Rooted.{Rooted}
 use Rattle.trace_laws.specs.Traced.{ArePinnedStarts, IsTraced, KeepsAll, SettlesNoMore}
-use Rattle.weak_refs.specs.Breaking.{CanBreak, HasRoomForBreaks}
-use Rattle.weak_refs.specs.Culling.{CanCull, HasRoomForCulls}
+use Rattle.weak_refs.specs.Breaking.{CanBreak, HasRoomForBreaks, SameButBroken}
+use Rattle.weak_refs.specs.Culling.{CanCull, HasRoomForCulls, SameButCulled}
 use Rattle.weak_refs.specs.Rewriting.{AreRewritten}
+use Rattle.weak_refs.proofs.BreakingLoop.{weak-over}
 use Rattle.weak_refs.proofs.Ends.{both-same, culled-can-break, other-after, pointer-after, table-after}
 use Rattle.weak_refs.proofs.Midways.{midway-can-cull}
 use Rattle.weak_refs.proofs.Noted.{broken-most, culled-most}
 use Rattle.weak_refs.proofs.Starts.{same-now}
 use Rattle.collect_pass.specs.Settling.{AreAllSettled}
+use Rattle.collect_pass.specs.Tracing.{AreTraceNotes}
 use Rattle.collect_pass.proofs.Keeping.{listed-at}
 use Rattle.collect_pass.proofs.Survivors.{strong-plain, strong-survives}
 use Rattle.collect_pass.proofs.TracedNow.{IsEndOf}
@@ -153,3 +156,45 @@ module _ (h : Rooted) (w z t u : CopyState) (exact : List ℕ) (end : IsEndOf h 
 
   pub traced-pass : u.pass ≡ w.pass
   traced-pass = ap (λ (x : CopyState). x.pass) same ∙ sym end.pass
+
+  pub traced-room : u.room ≡ w.room
+  traced-room = ap (λ (x : CopyState). x.room) same ∙ end.room
+
+-- and told
+module _ (a : NamedHeap) (z t u : CopyState) (weak : Starts) (l : IsListed a z weak) (left : AreRewritten a z t kinds.Table weak.listed (length weak.listed))
+    (start settled culled ended : PassNotes) (chain : SameButMoves start settled) (no_culls : start.culls.items ≡ []) (no_breaks : start.breaks.items ≡ [])
+    (culls_noted : (names : List ℕ) → AreNamed a z weak.listed names → culled.culls.items ≡ settled.culls.items ++ culled_of a (is_settled a z) names)
+    (culls_room : vec_capacity culled.culls ≡ vec_capacity settled.culls) (culls_rest : SameButCulled settled culled)
+    (breaks_noted : (names : List ℕ) → AreNamed a t weak.listed names → ended.breaks.items ≡ culled.breaks.items ++ broken_of a (is_settled a t) names)
+    (breaks_room : vec_capacity ended.breaks ≡ vec_capacity culled.breaks) (breaks_rest : SameButBroken culled ended) (moves_room : vec_capacity ended.moves ≡ vec_capacity start.moves) where
+  abbrev names : List ℕ
+  names = (its_names a z weak l).names
+
+  named_then : AreNamed a t weak.listed names
+  named_then = (let named = (its_names a z weak l).named in
+      record { long = named.long; each = λ k below. weak-over a z t left.same (slice_index names k) (slice_index weak.listed k) (named.each k below) })
+
+  live_then : is_settled a t ≡ is_settled a z
+  live_then = subst (λ (x : CopyState). is_settled a x ≡ is_settled a z) (sym left.same) refl
+
+  pub trace-notes : AreTraceNotes a (is_settled a z) start ended
+  trace-notes = record {
+    rest = record {
+      generation = breaks_rest.rest.generation ∙ culls_rest.rest.generation ∙ chain.rest.generation;
+      target = breaks_rest.rest.target ∙ culls_rest.rest.target ∙ chain.rest.target;
+      pins = breaks_rest.rest.pins ∙ culls_rest.rest.pins ∙ chain.rest.pins;
+      freed = breaks_rest.rest.freed ∙ culls_rest.rest.freed ∙ chain.rest.freed;
+      dead = breaks_rest.rest.dead ∙ culls_rest.rest.dead ∙ chain.rest.dead;
+      kept = breaks_rest.rest.kept ∙ culls_rest.rest.kept ∙ chain.rest.kept;
+    };
+    queued = breaks_rest.queued ∙ culls_rest.queued ∙ chain.queued;
+    weak_names = names;
+    weak = weak-names a z weak l;
+    culls = ap (λ v. v.items) breaks_rest.culls ∙ culls_noted names (its_names a z weak l).named
+        ∙ ap (λ (xs : List _). xs ++ culled_of a (is_settled a z) names) (ap (λ v. v.items) chain.culls ∙ no_culls);
+    breaks = breaks_noted names named_then ∙ ap (λ (xs : List ℕ). xs ++ broken_of a (is_settled a t) names) (ap (λ v. v.items) culls_rest.breaks ∙ ap (λ v. v.items) chain.breaks ∙ no_breaks)
+        ∙ ap (λ (live : ℕ → Bool). broken_of a live names) live_then;
+    moves_room = moves_room;
+    culls_room = ap vec_capacity breaks_rest.culls ∙ culls_room ∙ ap vec_capacity chain.culls;
+    breaks_room = breaks_room ∙ ap vec_capacity culls_rest.breaks ∙ ap vec_capacity chain.breaks;
+  }

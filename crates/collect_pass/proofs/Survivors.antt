@@ -102,8 +102,9 @@ surviving-live live (TableOf w b pairs) h =
     let behind = slots-append (IsSlotLive live) (pair_slots b kept) (replicate (2 * b) Kept) sides (slots-same (IsSlotLive live) (2 * b) Kept tt) in
     slots-header (IsSlotLive live) kinds.Table
     (Raw (fixnum_word (pos (weakness_number w))) ∷ Kept ∷ Raw (fixnum_word (pos (length kept))) ∷ (pair_slots b kept ++ replicate (2 * b) Kept)) (λ w. tt)
-    (slots-cons (IsSlotLive live) (Raw (fixnum_word (pos (weakness_number w)))) _ tt
-    (slots-cons (IsSlotLive live) Kept _ tt (slots-cons (IsSlotLive live) (Raw (fixnum_word (pos (length kept)))) _ tt behind)))
+    (slots-cons (IsSlotLive live) (Raw (fixnum_word (pos (weakness_number w)))) (Kept ∷ Raw (fixnum_word (pos (length kept))) ∷ (pair_slots b kept ++ replicate (2 * b) Kept)) tt
+    (slots-cons (IsSlotLive live) Kept (Raw (fixnum_word (pos (length kept))) ∷ (pair_slots b kept ++ replicate (2 * b) Kept)) tt
+    (slots-cons (IsSlotLive live) (Raw (fixnum_word (pos (length kept)))) (pair_slots b kept ++ replicate (2 * b) Kept) tt behind)))
 
 -- everything survives of what is no weak pointer and no table
 pub strong-survives : (live : ℕ → Bool) (k : Contents) → is_weak k ≡ false → surviving live k ≡ k

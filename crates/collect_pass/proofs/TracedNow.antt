@@ -36,6 +36,7 @@ pub record IsEndOf (h : Rooted) (w z : CopyState) (exact : List ℕ) : Type 0 wh
   pub least : SettlesNoMore h.heap z
   pub pins : w.pins ≡ z.pins
   pub pass : w.pass ≡ z.pass
+  pub room : z.room ≡ w.room
 
 module _ (h : Rooted) (w x y z : CopyState) (before exact ambiguous : List ℕ) (start : Midway h.heap w) (unmoved : w.moves ≡ []) (pinned : ArePinnedStarts h.heap w.pass.generation w.pins)
     (roots : RootsStand h before ambiguous) (evacuated : AreEvacuated h w x exact) (older : Scans h.heap x y) (all : Scans h.heap y z) where
@@ -124,4 +125,5 @@ module _ (h : Rooted) (w x y z : CopyState) (before exact ambiguous : List ℕ) 
     least = settles-no-more;
     pins = sym w_on.pins;
     pass = sym w_on.pass;
+    room = w_on.room;
   }
