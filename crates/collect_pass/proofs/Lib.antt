@@ -1,3 +1,4 @@
+pub mod WeakCounts
 pub mod Survivors
 pub mod Orders
 pub mod PagesAfter

@@ -66,7 +66,7 @@ count-one y from (suc n) q new low high = elim (cases_eq y from) [
       omega (arith, count-cons (is_or y q) from (range_with_len (from + 1) n), count-cons q from (range_with_len (from + 1) n), rest, here))
 ]
 
-count-no : (xs : List ℕ) → count_by (λ (x : ℕ). false) xs ≡ 0
+pub count-no : (xs : List ℕ) → count_by (λ (x : ℕ). false) xs ≡ 0
 count-no [] = refl
 count-no (x ∷ xs) = omega (arith, count-cons (λ (x : ℕ). false) x xs, count-no xs)
 
