@@ -87,13 +87,13 @@ module _ (s : Inside) (i : IsSound s) (w : View) (view : view_of s ≡ w) (h : R
   objects_here = ap (λ (x : Rooted). length x.heap.objects) h_is ∙ sym i.holds.commits
 
   -- there is room for its passes
-  pub has_room : (ambiguous : List ℕ) (room : RoomView) → ambiguous ≡ ambiguous_roots s.cells s.pins → IsReservedFor room w.program.pages (56 * length w.program.threads) →
-      IsReservedFor room (length h.heap.pages) (length ambiguous)
+  pub has_room : (ambiguous : List ℕ) (room : RoomView) → ambiguous ≡ ambiguous_roots s.cells s.pins → IsReservedFor room w.program.pages (56 * length w.program.threads) 0 →
+      IsReservedFor room (length h.heap.pages) (length ambiguous) 0
   has_room ambiguous room ambiguous_is reserved =
-      let here : IsReservedFor room s.program.pages (56 * length s.program.threads) = subst (λ (v : View). IsReservedFor room v.program.pages (56 * length v.program.threads)) (sym view) reserved in
+      let here : IsReservedFor room s.program.pages (56 * length s.program.threads) 0 = subst (λ (v : View). IsReservedFor room v.program.pages (56 * length v.program.threads) 0) (sym view) reserved in
       let few : length ambiguous ≤ 56 * length s.program.threads = subst (λ (ws : List ℕ). length ws ≤ 56 * length s.program.threads) (sym ambiguous_is) (few_ambiguous s.program (closed (heap s)) (closed_wf s.program (heap s) wf) before holds_b) in
       let pages : length s.pages ≡ s.program.pages = ap (λ (ps : List Entry). length ps) i.holds.pages ∙ wf.pages_length in
-      record { pages_are = here.pages_are ∙ sym (pages_here ∙ pages); enough = omega (arith, here.enough, few) }
+      record { pages_are = here.pages_are ∙ sym (pages_here ∙ pages); enough = omega (arith, here.enough, few); weak_enough = here.weak_enough }
 
   -- and for its records
   pub have_rooms : (rooms : List RecordRoom) (ambiguous : List ℕ) → AreRooms rooms s.commits (length ambiguous) (length s.pages) →

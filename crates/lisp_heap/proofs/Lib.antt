@@ -35,6 +35,7 @@ pub mod Starting
 pub mod Ending
 pub mod Leasing
 pub mod Relabelling
+pub mod NothingWeak
 pub mod StrongHeaps
 pub mod Recorded
 pub mod FlatCells

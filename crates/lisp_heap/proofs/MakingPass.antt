@@ -47,7 +47,7 @@ module _ (h : Rooted) (words : List ℕ) (pages : List Entry) (labels exact ambi
 
   module _ (r : PassRecord) (written : r ≡ recorded labels n) where
     is_told : r ≡ done.r
-    is_told = written ∙ recorded_is h.heap labels n done.r can.named done.told
+    is_told = written ∙ recorded_is h.heap pass.generation (target_of pass.generation pass.raise) labels n done.r can.strong can.named done.is_pass done.told
 
     pub labels_fit : (moves : List Placing) → moves ≡ r.moves → CanRelabel labels moves
     labels_fit moves are =

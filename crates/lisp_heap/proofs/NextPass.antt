@@ -23,6 +23,7 @@ use Rattle.lisp_heap.specs.Collecting.{CanMake, IsMade}
 use Rattle.lisp_heap.specs.Counted.{CanCount, counted_heap}
 use Rattle.lisp_heap.specs.Recording.{HasRoom}
 use Rattle.lisp_heap.specs.declared.recording.RecordRoom.{RecordRoom}
+use Rattle.lisp_heap.proofs.NothingWeak.{nothing_weak}
 use Rattle.lisp_heap.proofs.StrongHeaps.{strong_pass, strong_same}
 use Rattle.lisp_heap.proofs.Unchanged.{LabelsStand-same, WordsStand-same}
 
@@ -53,22 +54,27 @@ module _ (h : Rooted) (last n : ℕ) (pass : Pass) (words : List ℕ) (pages : L
     raised = λ e. (let low = raised_low e in omega (arith, generation_is, low));
   }
 
-  pub can_make : (room : RoomView) (record_room : RecordRoom) → IsReservedFor room (length h.heap.pages) (length ambiguous) →
+  pub can_make : (room : RoomView) (record_room : RecordRoom) → IsReservedFor room (length h.heap.pages) (length ambiguous) 0 →
       HasRoom record_room (length h.heap.objects) (length ambiguous) (length h.heap.pages) → CanMake h words pages labels exact ambiguous pass room record_room
   can_make room record_room reserved fits =
       let long : length h.heap.pages ≡ length pages = ap (λ (ps : List Entry). length ps) (sym stand.stand.pages_are) in
       record {
         can = record {
           stand = stand.stand;
-          strong = stand.strong;
+          no_finalizers = stand.strong.finalizers;
           generation = omega (arith, generation_is, next.low);
           oldest = λ e. elim (cases_Bool pass.raise) [
             | inl raised ↦ (let low = raised_low raised in absurd (omega (arith, generation_is, low, e)))
             | inr kept ↦ kept
           ];
           youngest = subst (IsEmptyBelow h.heap) (sym generation_is) next.empty;
-          reserved = record { pages_are = reserved.pages_are ∙ long; enough = reserved.enough };
+          reserved = record {
+            pages_are = reserved.pages_are ∙ long;
+            enough = reserved.enough;
+            weak_enough = (let none = nothing_weak h.heap stand.strong in omega arith);
+          };
         };
+        strong = stand.strong;
         named = stand.named;
         fits = subst (HasRoom record_room (length h.heap.objects) (length ambiguous)) long fits;
       }

@@ -16,7 +16,7 @@ use Rattle.heap_terms.specs.declared.events.Placing.{Placing}
 use Rattle.heap_terms.specs.Generations.{has_generation, is_of}
 use Rattle.heap_terms.specs.Heap.{NamedHeap, object_at, entry_at}
 use Rattle.heap_terms.specs.Objects.{Object, kind_of, payload_of}
-use Rattle.heap_terms.specs.Passes.{IsPass, order_of, is_freed}
+use Rattle.heap_terms.specs.Passes.{IsPass, order_of, is_freed, remains}
 use Rattle.heap_terms.specs.WellFormed.{IsSound}
 use Rattle.heap_laws.proofs.AtPlaces.{IfSome-at}
 use Rattle.heap_laws.proofs.Allocating.{size_least}
@@ -25,8 +25,10 @@ use Rattle.copy_space.specs.declared.notes.Move.{Move}
 use Rattle.copy_space.specs.declared.notes.PassNotes.{PassNotes}
 use Rattle.copy_space.specs.Moved.{noted}
 use Rattle.trace_laws.specs.Noted.{IsMoveOf, IsPinOf, IsToldBy}
+use Rattle.trace_laws.specs.Traced.{IsStrongHeap}
 use Rattle.lisp_heap.specs.Recording.{HaveLabels, new_place, pin_by, placing_by, recorded}
 use Rattle.lisp_heap.specs.Standing.{LabelsStand}
+use Rattle.lisp_heap.proofs.NothingWeak.{no_breaks, no_culls, no_queued}
 
 -- ---- moves and pins with their names
 
@@ -62,12 +64,12 @@ all_pins a labels stand (q ∷ qs) h =
     ∙ ap (λ (xs : List PinAt). q ∷ xs) (all_pins a labels stand qs (All-tail (IsPinOf a) q qs h))
 
 -- the record
-pub recorded_is : (a : NamedHeap) (labels : List ℕ) (n : PassNotes) (r : PassRecord) → LabelsStand a labels → IsToldBy a r n → recorded labels n ≡ r
-recorded_is a labels n r stand told =
+pub recorded_is : (a : NamedHeap) (g h : ℕ) (labels : List ℕ) (n : PassNotes) (r : PassRecord) → IsStrongHeap a → LabelsStand a labels → IsPass a g h r → IsToldBy a r n → recorded labels n ≡ r
+recorded_is a g h labels n r strong stand pass told =
     let moves : map (placing_by labels) n.moves.items ≡ r.moves = ap (map (placing_by labels)) told.moves ∙ all_moves a labels stand r.moves told.moved in
     let pins : map (pin_by labels) n.pins.items ≡ r.pins = ap (map (pin_by labels)) told.pins ∙ all_pins a labels stand r.pins told.pinned in
     same n.generation n.target (map (placing_by labels) n.moves.items) (map (pin_by labels) n.pins.items) n.freed.items n.dead n.kept r
-    told.generation told.target moves pins told.culls.1 told.breaks.1 told.queued.1 told.freed told.dead told.kept
+    told.generation told.target moves pins (pass.culls ∙ no_culls a (remains a r) strong) (pass.breaks ∙ no_breaks a (remains a r) strong) (pass.queued ∙ no_queued a (remains a r) strong) told.freed told.dead told.kept
   where
     same : (generation target : ℕ) (moves : List Placing) (pins : List PinAt) (freed : List ℕ) (dead kept : ℕ) (r : PassRecord) → generation ≡ r.generation → target ≡ r.target →
         moves ≡ r.moves → pins ≡ r.pins → r.culls ≡ [] → r.breaks ≡ [] → r.queued ≡ [] → freed ≡ r.freed → dead ≡ r.dead → kept ≡ r.kept →

@@ -8,13 +8,16 @@ use Rattle.collect_pass.specs.Pass.{CanPass, RoomView}
 use Rattle.copy_space.specs.declared.notes.Pass.{Pass}
 use Rattle.trace_laws.specs.Noted.{IsMoveOf}
 use Rattle.trace_laws.specs.Rooted.{Rooted, StandFor}
+use Rattle.trace_laws.specs.Traced.{IsStrongHeap}
 use Rattle.lisp_heap.specs.Recording.{HasRoom}
 use Rattle.lisp_heap.specs.Standing.{LabelsStand}
 use Rattle.lisp_heap.specs.declared.recording.RecordRoom.{RecordRoom}
 
--- a pass can be made, the labels stand for the heap, and there is room for the record
+-- a pass can be made, the labels stand for the heap, there is room for the record, and no table, weak pointer or finalizer is
+-- there yet
 pub record CanMake (h : Rooted) (words : List ℕ) (pages : List Entry) (labels exact ambiguous : List ℕ) (pass : Pass) (room : RoomView) (record_room : RecordRoom) : Type 0 where
   pub can : CanPass h words pages exact ambiguous pass room
+  pub strong : IsStrongHeap h.heap
   pub named : LabelsStand h.heap labels
   pub fits : HasRoom record_room (length h.heap.objects) (length ambiguous) (length pages)
 

@@ -35,7 +35,7 @@ most_ambiguous = 56
 
 -- the room for passes is there for all pages of a program and all words of its threads that pin
 abbrev pub IsRoomFor : Program → Scratch → Type 0
-IsRoomFor p x = IsReservedFor x.room p.pages (most_ambiguous * length p.threads)
+IsRoomFor p x = IsReservedFor x.room p.pages (most_ambiguous * length p.threads) 0
 
 -- its program is valid, its history is lawful, what it keeps stands for the heap that the history leaves, and room for
 -- passes, once it is made, is enough

@@ -32,7 +32,7 @@ fn make_next(
     ghost h: { Rooted }
     requires stand { StandNow h h.heap (length passes.old.items) space.old pages.old labels.old scratch.old.roots.exact.items scratch.old.roots.ambiguous.items stats.old }
     requires next { IsNextPass h.heap last (length passes.old.items) pass }
-    requires reserved { IsReservedFor scratch.old.room (length h.heap.pages) (length scratch.old.roots.ambiguous.items) }
+    requires reserved { IsReservedFor scratch.old.room (length h.heap.pages) (length scratch.old.roots.ambiguous.items) 0 }
     requires room { HasRoom room (length h.heap.objects) (length scratch.old.roots.ambiguous.items) (length h.heap.pages) }
     requires push { vec_len passes.old < vec_capacity passes.old }
     ensures stepped { (r : Record) × (passes.new.items ≡ passes.old.items ++ r ∷ [])
@@ -62,7 +62,7 @@ pub fn make_passes(
 )
     ghost h: { Rooted }
     requires stand { Stand h last space.old pages.old labels.old scratch.old.roots.exact.items scratch.old.roots.ambiguous.items stats.old [] }
-    requires reserved { IsReservedFor scratch.old.room (length h.heap.pages) (length scratch.old.roots.ambiguous.items) }
+    requires reserved { IsReservedFor scratch.old.room (length h.heap.pages) (length scratch.old.roots.ambiguous.items) 0 }
     requires rooms { AreRooms rooms.items (length h.heap.objects) (length scratch.old.roots.ambiguous.items) (length h.heap.pages) }
     requires six { vec_len rooms ≡ 6 }
     requires none { passes.old.items ≡ [] }

@@ -25,9 +25,9 @@ impl Scratch {
     pub fn new(alloc: Global, pages: u32, threads: u32) -> Result<Scratch, Memory>
         requires pages { pages ≤ MOST_PAGES }
         requires threads { threads ≤ MOST_THREADS }
-        ensures { IfOk result (λ scratch. IsReservedFor scratch.room pages (56 * threads)) }
+        ensures { IfOk result (λ scratch. IsReservedFor scratch.room pages (56 * threads) 0) }
     {
-        let room = PassRoom::reserve(alloc, pages, AMBIGUOUS * threads)?;
+        let room = PassRoom::reserve(alloc, pages, AMBIGUOUS * threads, 0)?;
         let roots = Roots {
             exact: Vec::new(alloc),
             ambiguous: Vec::new(alloc),

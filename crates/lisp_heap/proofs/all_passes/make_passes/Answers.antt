@@ -51,9 +51,10 @@ make_next-planned-requires g c =
     c.unwrap-room.ensures
     (All-pop (λ (room : RecordRoom). HasRoom room (length g.h.heap.objects) (length c.args.scratch.now.roots.ambiguous.items) (length g.h.heap.pages))
     l.rooms.items c.pop.new.self.items c.pop.result c.pop.ensures.items inv.rooms).1 in
-    let reserved : IsReservedFor l.scratch.room (length b.pages) (length l.scratch.roots.ambiguous.items) = record {
+    let reserved : IsReservedFor l.scratch.room (length b.pages) (length l.scratch.roots.ambiguous.items) 0 = record {
       pages_are = inv.room_pages ∙ c.requires.1.0.pages_are ∙ sym inv.stand.pages_long;
       enough = omega (arith, c.requires.1.0.enough, inv.room_ambiguous, ap (λ (ws : List ℕ). length ws) inv.ambiguous);
+      weak_enough = omega arith;
     } in
     let room : HasRoom c.unwrap-room.result (length b.objects) (length l.scratch.roots.ambiguous.items) (length b.pages) =
     subst (λ (n : ℕ). HasRoom c.unwrap-room.result n (length l.scratch.roots.ambiguous.items) (length b.pages)) (sym inv.stand.objects_long)

@@ -1,8 +1,11 @@
 -- Counting names of a range: by a list that has each of them once, and by two tests that part them.
-use Rattle.std.proofs.Common.{◌≡◌, ◌≢◌, ℕ, zero, suc, ◌+◌, ◌<◌, ◌≤◌, List, [], ◌∷◌, length, get_or, Bool, true, false, inl, inr, refl, sym, ◌∙◌, ap, cond, arith}
-use Rattle.std.proofs.lemmas.Bool.{cases_eq, cases_Bool, eq-eqb, ne_eqb, eqb-true}
+use Rattle.std.proofs.Common.{◌≡◌, ◌≢◌, ℕ, zero, suc, ◌+◌, ◌<◌, ◌≤◌, List, [], ◌∷◌, ◌++◌, length, get_or, Bool, true, false, nat_eq, inl, inr, refl, sym, ◌∙◌, ap, cond, arith, length-append}
+use Rattle.std.proofs.lemmas.Bool.{cases_eq, cases_lt, cases_Bool, eq-eqb, ne_eqb, eqb-true, false≢true}
+use Rattle.std.proofs.lemmas.List.{get_or_append_left}
 use Rattle.std.proofs.lemmas.List.Elements.{All-head, All-tail}
-use Rattle.std.proofs.lemmas.List.Sums.{sum_by-cons}
+use Rattle.std.proofs.lemmas.List.Folds.{list_any_at}
+use Rattle.std.proofs.lemmas.List.FromFn.{length-range_with_len}
+use Rattle.std.proofs.lemmas.List.Sums.{count_by-le-length, sum_by-cons}
 use Rattle.std.specs.List.{list_any, range_with_len}
 use Rattle.std.specs.Prelude.{All, AllPairs, ◌==◌, ◌&&◌, ◌||◌, not, count_by}
 use Rattle.pass_laws.proofs.Lookups.{found_at}
@@ -63,7 +66,7 @@ count-one y from (suc n) q new low high = elim (cases_eq y from) [
       omega (arith, count-cons (is_or y q) from (range_with_len (from + 1) n), count-cons q from (range_with_len (from + 1) n), rest, here))
 ]
 
-count-no : (xs : List ℕ) → count_by (λ (x : ℕ). false) xs ≡ 0
+pub count-no : (xs : List ℕ) → count_by (λ (x : ℕ). false) xs ≡ 0
 count-no [] = refl
 count-no (x ∷ xs) = omega (arith, count-cons (λ (x : ℕ). false) x xs, count-no xs)
 
@@ -83,3 +86,56 @@ count-listed (y ∷ ys) n once below =
       | inl some ↦ (let found = found_at (λ z. z == y) ys some in
           absurd (once 0 (suc found.0) 0 (omega arith) (let l = found.1 in omega arith) (sym (eqb-true (get_or ys found.0 0) y (found.2 0)))))
     ]
+
+-- one test lets through no more than another that passes what it passes
+pub count-most : {X : Type 0} (p q : X → Bool) (xs : List X) → ((x : X) → p x ≡ true → q x ≡ true) → count_by p xs ≤ count_by q xs
+count-most p q [] more = omega arith
+count-most p q (x ∷ xs) more =
+    let rest = count-most p q xs more in
+    let here : ones (p x) ≤ ones (q x) = elim (cases_Bool (p x)) [
+      | inl in_it ↦ (let both = more x in_it in rw (in_it, both) (omega arith))
+      | inr out ↦ rw out (omega arith)
+    ] in
+    omega (arith, count-cons p x xs, count-cons q x xs, rest, here)
+
+-- so a list that names each once is no longer than what passes a test, where each of it does
+pub listed-few : (ns : List ℕ) (n : ℕ) (q : ℕ → Bool) → AllPairs (λ (x y : ℕ). x ≢ y) ns → All (λ x. x < n) ns → All (λ x. q x ≡ true) ns → length ns ≤ count_by q (range_with_len 0 n)
+listed-few ns n q once below all =
+    let is = count-listed ns n once below in
+    let most = count-most (λ x. list_any (λ y. y == x) ns) q (range_with_len 0 n)
+    (λ x e. (let found = found_at (λ y. y == x) ns e in ap q (sym (eqb-true (get_or ns found.0 0) x (found.2 0))) ∙ all found.0 0 found.1)) in
+    omega (arith, is, most)
+
+-- a number that a list does not have, in front of it or behind it
+unlisted-at : (x : ℕ) (xs : List ℕ) → list_any (nat_eq x) xs ≡ false → (j d : ℕ) → j < length xs → x ≢ get_or xs j d
+unlisted-at x xs none j d l same = false≢true (sym none ∙ list_any_at (nat_eq x) xs j d l (eq-eqb x (get_or xs j d) same))
+
+pub distinct-cons : (x : ℕ) (xs : List ℕ) → list_any (nat_eq x) xs ≡ false → AllPairs (λ (x y : ℕ). x ≢ y) xs → AllPairs (λ (x y : ℕ). x ≢ y) (x ∷ xs)
+distinct-cons x xs none once = go
+  where
+    go : AllPairs (λ (x y : ℕ). x ≢ y) (x ∷ xs)
+    go i zero d l m = absurd (omega (arith, l))
+    go zero (suc j) d l m = unlisted-at x xs none j d (omega arith)
+    go (suc i) (suc j) d l m = once i j d (omega arith) (omega arith)
+
+at-end : (xs : List ℕ) (x d : ℕ) → get_or (xs ++ x ∷ []) (length xs) d ≡ x
+at-end [] x d = refl
+at-end (y ∷ ys) x d = at-end ys x d
+
+pub distinct-behind : (x : ℕ) (xs : List ℕ) → list_any (nat_eq x) xs ≡ false → AllPairs (λ (x y : ℕ). x ≢ y) xs → AllPairs (λ (x y : ℕ). x ≢ y) (xs ++ x ∷ [])
+distinct-behind x xs none once i j d l m =
+    let long = length-append xs (x ∷ []) in
+    let first = get_or_append_left xs (x ∷ []) d i (omega arith) in
+    elim (cases_lt j (length xs)) [
+      | inl inside ↦ (let second = get_or_append_left xs (x ∷ []) d j inside in λ same. once i j d l inside (sym first ∙ same ∙ second))
+      | inr past ↦ (let last : j ≡ length xs = omega arith in
+          λ same. unlisted-at x xs none i d (omega arith) (sym (ap (λ (k : ℕ). get_or (xs ++ x ∷ []) k d) last ∙ at-end xs x d) ∙ sym same ∙ first))
+    ]
+
+-- numbers below n, each once, are at most n
+pub distinct-few : (xs : List ℕ) (n : ℕ) → AllPairs (λ (x y : ℕ). x ≢ y) xs → All (λ x. x < n) xs → length xs ≤ n
+distinct-few xs n once below =
+    let few = listed-few xs n (λ x. true) once below (λ i d l. refl) in
+    let most = count_by-le-length (λ (x : ℕ). true) (range_with_len 0 n) in
+    let long = length-range_with_len 0 n in
+    omega arith
