@@ -1,6 +1,6 @@
 //! The room for passes.
 
-ghost use Rattle.std.specs.Prelude.{◌≡◌, ◌*◌, ◌+◌, ◌-◌, ◌≤◌, IfOk};
+ghost use Rattle.std.specs.Prelude.{◌≡◌, ◌*◌, ◌+◌, ◌-◌, ◌≤◌, IfOk, OnOk};
 ghost use Rattle.heap_terms.specs.declared.limits.TheConstants.{MOST_PAGES};
 ghost use Rattle.collect_pass.specs.Pass.{IsReservedFor};
 ghost use Rattle.collect_pass.specs.Room.{AreNotesFor};
@@ -40,12 +40,7 @@ impl Model for PassRoom {
 impl PassRoom {
     /// Room for passes over a heap of so many pages, with at most so many ambiguous roots and at most
     /// so many weak pointers and tables. It is refused only for want of memory.
-    pub fn reserve(
-        alloc: Global,
-        pages: u32,
-        ambiguous: u32,
-        weak: u32,
-    ) -> Result<PassRoom, Memory>
+    pub fn reserve(alloc: Global, pages: u32, ambiguous: u32, weak: u32) -> Result<PassRoom, Memory>
         requires { pages ≤ MOST_PAGES }
         ensures { IfOk result (λ room. IsReservedFor room pages ambiguous weak) }
     {
@@ -59,6 +54,18 @@ impl PassRoom {
         })
     }
 
+    /// Makes room for the numbers of so many finalizers, before the passes of a collection. It is
+    /// refused only for want of memory; what the room is for else stays.
+    pub fn reserve_queued(&mut self, most: u32) -> Result<(), Memory>
+        ensures queued { OnOk result (most ≤ self.new.queued) }
+        ensures pages { self.new.pages ≡ self.old.pages }
+        ensures ambiguous { self.new.ambiguous ≡ self.old.ambiguous }
+        ensures weak { self.new.weak ≡ self.old.weak }
+    {
+        self.notes.queued.reserve(most as usize)?;
+        Ok(())
+    }
+
     /// The notes of the latest pass.
     pub fn notes(&self) -> &PassNotes
         ensures { result.now ≡ self.now.notes }
@@ -69,12 +76,7 @@ impl PassRoom {
 
 /// Notes with room for a move of every double word, for a pin for each ambiguous root, for every
 /// page, for all pairs of so many tables, and for as many broken weak pointers.
-fn reserve_notes(
-    alloc: Global,
-    pages: u32,
-    ambiguous: u32,
-    weak: u32,
-) -> Result<PassNotes, Memory>
+fn reserve_notes(alloc: Global, pages: u32, ambiguous: u32, weak: u32) -> Result<PassNotes, Memory>
     requires { pages ≤ MOST_PAGES }
     ensures { IfOk result (λ notes. AreNotesFor notes pages ambiguous weak) }
 {
