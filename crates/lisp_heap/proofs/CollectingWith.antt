@@ -8,6 +8,8 @@ use Rattle.heap_terms.specs.declared.events.Event.TheVariants.{Collected}
 use Rattle.heap_terms.specs.declared.events.PassRecord.{PassRecord}
 use Rattle.heap_terms.specs.declared.pages.Entry.{Entry}
 use Rattle.heap_terms.specs.declared.pages.Next.TheVariants as nexts
+use Rattle.finalizers.specs.Lists.{Lists}
+use Rattle.finalizers.specs.Standing.{FinalizersStand}
 use Rattle.generation_policy.specs.declared.stats.GenStats.{GenStats}
 use Rattle.heap_laws.proofs.SoundHeaps.{commits_few, replay-numbers}
 use Rattle.heap_terms.specs.Collections.{ArePasses, after_passes, closed}
@@ -16,7 +18,7 @@ use Rattle.heap_terms.specs.Heap.{NamedHeap, thread_at}
 use Rattle.heap_terms.specs.Histories.{IsNext, after}
 use Rattle.heap_terms.specs.Spelling.{word_of}
 use Rattle.heap_terms.specs.WellFormed.{IsWellFormed}
-use Rattle.collect_pass.specs.Pass.{IsReservedFor, RoomView}
+use Rattle.collect_pass.specs.Pass.{CanQueue, IsReservedFor, RoomView}
 use Rattle.trace_laws.specs.Rooted.{Rooted, StandFor}
 use Rattle.lisp_heap.specs.Agreement.{Agrees}
 use Rattle.lisp_heap.specs.CellsView.{with_exact_words}
@@ -102,17 +104,25 @@ module _ (s : Inside) (i : IsSound s) (w : View) (view : view_of s ≡ w) (h : R
       subst (λ (n : ℕ). AreRooms rooms n (length ambiguous) (length h.heap.pages)) (sym objects_here)
       (subst (λ (n : ℕ). AreRooms rooms s.commits (length ambiguous) n) (sym pages_here) fit)
 
+  -- its finalizers can be queued
+  pub can_queue : (room : RoomView) → length s.finalizers.registered ≤ room.queued → CanQueue h.heap s.finalizers room
+  can_queue room reserved = record { stand = subst (λ (x : Rooted). FinalizersStand x.heap s.finalizers) (sym h_is) holds_b.finalizers; reserved = reserved }
+
   -- ---- after the passes
 
   module _ (t last : ℕ) (lt : t < length w.program.threads) (collects : next_of w t ≡ nexts.Collect last) (allowed : (u : ℕ) → (thread_at (heap_of w) u).inhibits ≡ 0)
       (records : List PassRecord) (words : List ℕ) (pages : List Entry) (labels exact ambiguous : List ℕ) (stats : GenStats) (ambiguous_is : ambiguous ≡ ambiguous_roots s.cells s.pins)
-      (made : Stand h last words pages labels exact ambiguous stats records) (passes : ArePasses h.heap last 0 records) where
+      (made : Stand h last words pages labels exact ambiguous stats records) (passes : ArePasses h.heap last 0 records) (lists : Lists)
+      (listed : FinalizersStand (after_passes h.heap last 0 records) lists) where
     made_here : Stand (rooted (closed (heap s))) last words pages labels exact (ambiguous_roots s.cells s.pins) stats records
     made_here = subst (λ (x : Rooted). Stand x last words pages labels exact (ambiguous_roots s.cells s.pins) stats records) h_is
         (subst (λ (xs : List ℕ). Stand h last words pages labels exact xs stats records) ambiguous_is made)
 
     are : ArePasses (closed (heap s)) last 0 records
     are = subst (λ (x : Rooted). ArePasses x.heap last 0 records) h_is passes
+
+    listed_here : FinalizersStand (after_passes (closed (heap s)) last 0 records) lists
+    listed_here = subst (λ (x : Rooted). FinalizersStand (after_passes x.heap last 0 records) lists) h_is listed
 
     here : t < length s.program.threads
     here = thread_in s w view t lt
@@ -133,10 +143,10 @@ module _ (s : Inside) (i : IsSound s) (w : View) (view : view_of s ≡ w) (h : R
         (subst (λ (v : View). (u : ℕ) → (thread_at (heap_of v) u).inhibits ≡ 0) (sym view) allowed) are
 
     abbrev parts : Parts
-    parts = parts_then s.program (heap s) (parts_of s) wf i.holds t last records here are words pages labels exact stats made_here.stand made_here.named made_here.counted made_here.objects_long (replay-strong s.program s.history.items i.valid i.lawful).finalizers
+    parts = parts_then s.program (heap s) (parts_of s) wf i.holds t last records here are words pages labels exact stats made_here.stand made_here.named made_here.counted made_here.objects_long lists listed_here
 
     held : Holds (after s.program (heap s) event) parts
-    held = collected_holds s.program (heap s) (parts_of s) wf i.holds t last records here are words pages labels exact stats made_here.stand made_here.named made_here.counted made_here.objects_long (replay-strong s.program s.history.items i.valid i.lawful).finalizers
+    held = collected_holds s.program (heap s) (parts_of s) wf i.holds t last records here are words pages labels exact stats made_here.stand made_here.named made_here.counted made_here.objects_long lists listed_here
 
     -- the fields of a World to which all that was written
     pub record Written (x : Inside) : Type 0 where
@@ -152,7 +162,7 @@ module _ (s : Inside) (i : IsSound s) (w : View) (view : view_of s ≡ w) (h : R
       pub stats_are : x.stats ≡ stats
       pub counted : x.counted ≡ s.counted
       pub triggered : x.triggered ≡ s.triggered
-      pub finalizers : x.finalizers ≡ s.finalizers
+      pub finalizers : x.finalizers ≡ lists
       pub scratch : ForSome x.scratch (IsRoomFor x.program)
 
     pub sound_then : (x : Inside) → Written x → IsSound x

@@ -61,7 +61,6 @@ module _ (h : Rooted) (last n : ℕ) (pass : Pass) (words : List ℕ) (pages : L
       record {
         can = record {
           stand = stand.stand;
-          no_finalizers = stand.strong.finalizers;
           generation = omega (arith, generation_is, next.low);
           oldest = λ e. elim (cases_Bool pass.raise) [
             | inl raised ↦ (let low = raised_low raised in absurd (omega (arith, generation_is, low, e)))

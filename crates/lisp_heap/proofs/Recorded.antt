@@ -28,7 +28,7 @@ use Rattle.trace_laws.specs.Noted.{IsMoveOf, IsPinOf, IsToldBy}
 use Rattle.trace_laws.specs.Traced.{IsStrongHeap}
 use Rattle.lisp_heap.specs.Recording.{HaveLabels, new_place, pin_by, placing_by, recorded}
 use Rattle.lisp_heap.specs.Standing.{LabelsStand}
-use Rattle.lisp_heap.proofs.NothingWeak.{no_breaks, no_culls, no_queued}
+use Rattle.lisp_heap.proofs.NothingWeak.{no_breaks, no_culls}
 
 -- ---- moves and pins with their names
 
@@ -68,15 +68,15 @@ pub recorded_is : (a : NamedHeap) (g h : ℕ) (labels : List ℕ) (n : PassNotes
 recorded_is a g h labels n r strong stand pass told =
     let moves : map (placing_by labels) n.moves.items ≡ r.moves = ap (map (placing_by labels)) told.moves ∙ all_moves a labels stand r.moves told.moved in
     let pins : map (pin_by labels) n.pins.items ≡ r.pins = ap (map (pin_by labels)) told.pins ∙ all_pins a labels stand r.pins told.pinned in
-    same n.generation n.target (map (placing_by labels) n.moves.items) (map (pin_by labels) n.pins.items) n.freed.items n.dead n.kept r
-    told.generation told.target moves pins (pass.culls ∙ no_culls a (remains a r) strong) (pass.breaks ∙ no_breaks a (remains a r) strong) (pass.queued ∙ no_queued a (remains a r) strong) told.freed told.dead told.kept
+    same n.generation n.target (map (placing_by labels) n.moves.items) (map (pin_by labels) n.pins.items) n.queued.items n.freed.items n.dead n.kept r
+    told.generation told.target moves pins (pass.culls ∙ no_culls a (remains a r) strong) (pass.breaks ∙ no_breaks a (remains a r) strong) told.queued told.freed told.dead told.kept
   where
-    same : (generation target : ℕ) (moves : List Placing) (pins : List PinAt) (freed : List ℕ) (dead kept : ℕ) (r : PassRecord) → generation ≡ r.generation → target ≡ r.target →
-        moves ≡ r.moves → pins ≡ r.pins → r.culls ≡ [] → r.breaks ≡ [] → r.queued ≡ [] → freed ≡ r.freed → dead ≡ r.dead → kept ≡ r.kept →
+    same : (generation target : ℕ) (moves : List Placing) (pins : List PinAt) (queued freed : List ℕ) (dead kept : ℕ) (r : PassRecord) → generation ≡ r.generation → target ≡ r.target →
+        moves ≡ r.moves → pins ≡ r.pins → r.culls ≡ [] → r.breaks ≡ [] → queued ≡ r.queued → freed ≡ r.freed → dead ≡ r.dead → kept ≡ r.kept →
         ◌≡◌ {A = PassRecord}
-        (record { generation = generation; target = target; moves = moves; pins = pins; culls = []; breaks = []; queued = []; freed = freed; dead = dead; kept = kept })
+        (record { generation = generation; target = target; moves = moves; pins = pins; culls = []; breaks = []; queued = queued; freed = freed; dead = dead; kept = kept })
         (record { generation = r.generation; target = r.target; moves = r.moves; pins = r.pins; culls = r.culls; breaks = r.breaks; queued = r.queued; freed = r.freed; dead = r.dead; kept = r.kept })
-    same generation target moves pins freed dead kept r e1 e2 e3 e4 e5 e6 e7 e8 e9 e10 = cc
+    same generation target moves pins queued freed dead kept r e1 e2 e3 e4 e5 e6 e7 e8 e9 e10 = cc
 
 -- ---- the indices have labels
 

@@ -16,7 +16,7 @@ use Rattle.heap_terms.specs.WellFormed.{IsWellFormed}
 use Rattle.pass_laws.specs.NoRegions.{HasNoRegions, IsEmptyBelow}
 use Rattle.trace_laws.specs.Rooted.{Rooted, StandFor}
 use Rattle.trace_laws.specs.Traced.{IsStrongHeap}
-use Rattle.lisp_heap.specs.Recording.{HasRoom}
+use Rattle.lisp_heap.specs.Recording.{HasQueueRoom, HasRoom}
 use Rattle.lisp_heap.specs.Standing.{LabelsStand}
 use Rattle.lisp_heap.specs.declared.recording.RecordRoom.{RecordRoom}
 
@@ -62,3 +62,7 @@ pub record IsStepped (h : Rooted) (last n : ℕ) (pass : Pass) (words : List ℕ
 -- rooms for records of so many moves, pins and freed pages
 abbrev pub AreRooms : List RecordRoom → ℕ → ℕ → ℕ → Type 0
 AreRooms rooms moves pins freed = All (λ (room : RecordRoom). HasRoom room moves pins freed) rooms
+
+-- and of so many queued finalizers
+abbrev pub AreQueueRooms : List RecordRoom → ℕ → Type 0
+AreQueueRooms rooms queued = All (λ (room : RecordRoom). HasQueueRoom room queued) rooms

@@ -19,7 +19,7 @@ placing_by labels m = record { name = slice_index labels (m.old / 2); old = m.ol
 abbrev pub pin_by : List ℕ → ℕ → PinAt
 pin_by labels index = record { name = slice_index labels (index / 2); index = index }
 
--- what notes tell of a pass over a heap without tables, weak pointers and finalizers
+-- what notes tell of a pass over a heap without tables and weak pointers
 abbrev pub recorded : List ℕ → PassNotes → PassRecord
 recorded labels n = record {
   generation = n.generation;
@@ -28,7 +28,7 @@ recorded labels n = record {
   pins = map (pin_by labels) n.pins.items;
   culls = [];
   breaks = [];
-  queued = [];
+  queued = n.queued.items;
   freed = n.freed.items;
   dead = n.dead;
   kept = n.kept;
@@ -47,6 +47,11 @@ pub record HasRoom (room : RecordRoom) (moves pins freed : ℕ) : Type 0 where
   pub moves_fit : moves ≤ vec_capacity room.moves
   pub pins_fit : pins ≤ vec_capacity room.pins
   pub freed_fit : freed ≤ vec_capacity room.freed
+
+-- and for the numbers of so many finalizers
+pub record HasQueueRoom (room : RecordRoom) (queued : ℕ) : Type 0 where
+  pub no_queued : room.queued.items ≡ []
+  pub queued_fit : queued ≤ vec_capacity room.queued
 
 -- the labels after an object was put at its new place
 abbrev pub labelled_at : List ℕ → ℕ → Option ℕ → List ℕ

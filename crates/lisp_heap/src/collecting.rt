@@ -139,13 +139,16 @@ impl World {
     {
         gather(&self.cells, &self.pins, &mut scratch.roots)?;
         let pinned = scratch.roots.ambiguous.len();
-        let rooms = reserve_rooms(self.alloc, self.commits, pinned, self.pages.len())?;
+        let queued = self.finalizers.len();
+        let rooms = reserve_rooms(self.alloc, self.commits, pinned, self.pages.len(), queued)?;
+        scratch.room.reserve_queued(queued)?;
         let mut passes = Vec::with_capacity(self.alloc, MOST_PASSES)?;
         self.history.reserve(1)?;
         self.states.close_regions();
         make_passes(
             &mut self.space,
             &mut self.pages,
+            &mut self.finalizers,
             &mut self.labels,
             scratch,
             &mut self.stats,

@@ -2,8 +2,8 @@
 
 ghost use Rattle.std.specs.Prelude.{◌≡◌, ◌+◌, ◌/◌, ◌<◌, ◌≤◌, ◌++◌, length, map, All, IfOk, IfSome, vec_len, vec_capacity};
 ghost use Rattle.copy_space.specs.declared.notes.Move.{Move};
-ghost use Rattle.lisp_heap.specs.AllPasses.{AreRooms};
-ghost use Rattle.lisp_heap.specs.Recording.{CanRelabel, HasRoom, HaveLabels, labelled_by, new_place, pin_by, placing_by, recorded, relabelled};
+ghost use Rattle.lisp_heap.specs.AllPasses.{AreQueueRooms, AreRooms};
+ghost use Rattle.lisp_heap.specs.Recording.{CanRelabel, HasQueueRoom, HasRoom, HaveLabels, labelled_by, new_place, pin_by, placing_by, recorded, relabelled};
 
 use copy_space::{Move, PassNotes};
 use heap_terms::{Memory, PassRecord, PinAt, Placing, Seq};
@@ -17,18 +17,27 @@ pub struct RecordRoom {
     pub(crate) moves: Vec<Placing>,
     pub(crate) pins: Vec<PinAt>,
     pub(crate) freed: Vec<u32>,
+    pub(crate) queued: Vec<u32>,
 }
 
 impl RecordRoom {
-    /// Room for so many moves, pins and freed pages.
-    pub fn reserve(alloc: Global, moves: u32, pins: usize, freed: u32) -> Result<RecordRoom, Memory>
-        ensures { IfOk result (λ room. HasRoom room moves pins freed) }
+    /// Room for so many moves, pins, freed pages and queued finalizers.
+    pub fn reserve(
+        alloc: Global,
+        moves: u32,
+        pins: usize,
+        freed: u32,
+        queued: u32,
+    ) -> Result<RecordRoom, Memory>
+        ensures room { IfOk result (λ room. HasRoom room moves pins freed) }
+        ensures queue { IfOk result (λ room. HasQueueRoom room queued) }
     {
         Ok(RecordRoom {
             alloc,
             moves: Vec::with_capacity(alloc, moves as usize)?,
             pins: Vec::with_capacity(alloc, pins)?,
             freed: Vec::with_capacity(alloc, freed as usize)?,
+            queued: Vec::with_capacity(alloc, queued as usize)?,
         })
     }
 }
@@ -36,19 +45,24 @@ impl RecordRoom {
 /// How many passes a collection has at most.
 pub(crate) const MOST_PASSES: usize = 6;
 
-/// Rooms for the records of all passes of a collection, each for so many moves, pins and freed pages.
+/// Rooms for the records of all passes of a collection, each for so many moves, pins, freed pages and
+/// queued finalizers.
 pub fn reserve_rooms(
     alloc: Global,
     moves: u32,
     pins: usize,
     freed: u32,
+    queued: u32,
 ) -> Result<Vec<RecordRoom>, Memory>
     ensures rooms { IfOk result (λ rooms. AreRooms rooms.items moves pins freed) }
+    ensures queue { IfOk result (λ rooms. AreQueueRooms rooms.items queued) }
     ensures six { IfOk result (λ rooms. vec_len rooms ≡ 6) }
 {
     let mut rooms = Vec::with_capacity(alloc, MOST_PASSES)?;
     for n in 0..MOST_PASSES {
-        rooms.push_reserved(RecordRoom::reserve(alloc, moves, pins, freed)?);
+        rooms.push_reserved(RecordRoom::reserve(
+            alloc, moves, pins, freed, queued,
+        )?);
     }
     Ok(rooms)
 }
@@ -93,6 +107,7 @@ fn add_pinned(indices: &[u32], labels: &Prefilled<u32>, out: &mut Vec<PinAt>)
 pub fn write_record(notes: &PassNotes, labels: &Prefilled<u32>, room: RecordRoom) -> PassRecord
     requires labels { HaveLabels labels.now notes.now }
     requires room { HasRoom room (length notes.now.moves.items) (length notes.now.pins.items) (length notes.now.freed.items) }
+    requires queue { HasQueueRoom room (length notes.now.queued.items) }
     ensures { result ≡ recorded labels.now notes.now }
 {
     let RecordRoom {
@@ -100,10 +115,12 @@ pub fn write_record(notes: &PassNotes, labels: &Prefilled<u32>, room: RecordRoom
         mut moves,
         mut pins,
         mut freed,
+        mut queued,
     } = room;
     add_moves(notes.moves.as_slice(), labels, &mut moves);
     add_pinned(notes.pins.as_slice(), labels, &mut pins);
     freed.extend_from_slice(notes.freed.as_slice()).unwrap();
+    queued.extend_from_slice(notes.queued.as_slice()).unwrap();
     PassRecord {
         generation: notes.generation,
         target: notes.target,
@@ -111,7 +128,7 @@ pub fn write_record(notes: &PassNotes, labels: &Prefilled<u32>, room: RecordRoom
         pins: Seq::from_vec(pins),
         culls: Seq::new(alloc),
         breaks: Seq::new(alloc),
-        queued: Seq::new(alloc),
+        queued: Seq::from_vec(queued),
         freed: Seq::from_vec(freed),
         dead: notes.dead,
         kept: notes.kept,

@@ -4,13 +4,16 @@ use Rattle.std.proofs.lemmas.List.Elements.{All-pop}
 use Rattle.std.proofs.lemmas.List.{length_push}
 use Rattle.std.specs.Option.{option_to_list}
 use Rattle.std.specs.Prelude.{IfSome}
-use Rattle.collect_pass.specs.Pass.{IsReservedFor}
+use Rattle.collect_pass.specs.Pass.{CanQueue, IsReservedFor}
+use Rattle.finalizers.specs.Standing.{FinalizersStand}
+use Rattle.generation_policy.proofs.Loops.{after_one_more}
+use Rattle.heap_terms.specs.Heap.{NamedHeap}
 use Rattle.copy_space.specs.declared.notes.Pass.{Pass}
 use Rattle.generation_policy.specs.Plan.{pass_over}
 use Rattle.heap_terms.specs.declared.events.PassRecord.{PassRecord}
 use Rattle.heap_terms.specs.Collections.{after_passes}
 use Rattle.lisp_heap.specs.AllPasses.{IsNextPass, IsPlanned, Stand}
-use Rattle.lisp_heap.specs.Recording.{HasRoom}
+use Rattle.lisp_heap.specs.Recording.{HasQueueRoom, HasRoom}
 use Rattle.lisp_heap.specs.declared.recording.RecordRoom.{RecordRoom}
 use Rattle.lisp_heap.proofs.PassesSoFar.{planned_more, stand_more, stand_now}
 use Rattle.lisp_heap.proofs.all_passes.make_passes.Goals as goal
@@ -29,9 +32,13 @@ loop-planned-init g c =
       ambiguous = refl;
       room_pages = refl;
       room_ambiguous = refl;
+      finalizers = subst (λ (rs : List PassRecord). FinalizersStand (after_passes g.h.heap c.args.last 0 rs) c.args.finalizers.now) (sym none) c.requires.1.1.1.1.1.1.0.stand;
+      fewer = omega arith;
+      room_queued = refl;
+      queue_rooms = c.requires.1.1.1.1.1.1.1;
       rooms = c.requires.1.1.0;
       left = omega (arith, c.requires.1.1.1.0, c.args.passes.now.ok, ap (λ (rs : List PassRecord). length rs) none);
-      capacity = c.requires.1.1.1.1.1;
+      capacity = c.requires.1.1.1.1.1.0;
     }
 
 pub unwrap-room-requires : goal.unwrap-room-requires
@@ -56,12 +63,18 @@ make_next-planned-requires g c =
       enough = omega (arith, c.requires.1.0.enough, inv.room_ambiguous, ap (λ (ws : List ℕ). length ws) inv.ambiguous);
       weak_enough = omega arith;
     } in
+    let queue_fits : HasQueueRoom c.unwrap-room.result (length c.args.finalizers.now.registered) =
+    subst (λ (o : Option RecordRoom). IfSome o (λ (room : RecordRoom). HasQueueRoom room (length c.args.finalizers.now.registered))) c.unwrap-room.ensures
+    (All-pop (λ (room : RecordRoom). HasQueueRoom room (length c.args.finalizers.now.registered)) l.rooms.items c.pop.new.self.items c.pop.result c.pop.ensures.items inv.queue_rooms).1 in
+    let reserved_queue = c.requires.1.1.1.1.1.1.0.reserved in
+    let queue : CanQueue b l.finalizers l.scratch.room = record { stand = inv.finalizers; reserved = omega (arith, reserved_queue, inv.room_queued, inv.fewer) } in
+    let queue_room : HasQueueRoom c.unwrap-room.result (length l.finalizers.registered) = record { no_queued = queue_fits.no_queued; queued_fit = omega (arith, queue_fits.queued_fit, inv.fewer) } in
     let room : HasRoom c.unwrap-room.result (length b.objects) (length l.scratch.roots.ambiguous.items) (length b.pages) =
     subst (λ (n : ℕ). HasRoom c.unwrap-room.result n (length l.scratch.roots.ambiguous.items) (length b.pages)) (sym inv.stand.objects_long)
     (subst (λ (n : ℕ). HasRoom c.unwrap-room.result (length g.h.heap.objects) (length l.scratch.roots.ambiguous.items) n) (sym inv.stand.pages_long)
     (subst (λ (n : ℕ). HasRoom c.unwrap-room.result (length g.h.heap.objects) n (length g.h.heap.pages)) (sym (ap (λ (ws : List ℕ). length ws) inv.ambiguous)) fits)) in (
       stand_now g.h c.args.last l.passes.items l.space l.pages l.labels l.scratch.roots.exact.items l.scratch.roots.ambiguous.items l.stats inv.stand,
-      (plan.1, (reserved, (room, omega (arith, inv.capacity, plan.1.low, l.passes.ok)))),
+      (plan.1, (reserved, (room, (omega (arith, inv.capacity, plan.1.low, l.passes.ok), (queue, queue_room))))),
     )
 
 pub loop-planned-preserved : goal.loop-planned-preserved
@@ -84,6 +97,11 @@ loop-planned-preserved g c =
       ambiguous = made.ensures.ambiguous ∙ inv.ambiguous;
       room_pages = made.ensures.room_pages ∙ inv.room_pages;
       room_ambiguous = made.ensures.room_ambiguous ∙ inv.room_ambiguous;
+      finalizers = subst (λ (rs : List PassRecord). FinalizersStand (after_passes g.h.heap c.args.last 0 rs) made.new.finalizers) (sym step.1)
+          (subst (λ (x : NamedHeap). FinalizersStand x made.new.finalizers) (sym (after_one_more g.h.heap c.args.last 0 (length l.passes.items) l.passes.items step.0 (omega arith))) step.3);
+      fewer = omega (arith, made.ensures.fewer, inv.fewer);
+      room_queued = made.ensures.room_queued ∙ inv.room_queued;
+      queue_rooms = (All-pop (λ (room : RecordRoom). HasQueueRoom room (length c.args.finalizers.now.registered)) l.rooms.items c.pop.new.self.items c.pop.result c.pop.ensures.items inv.queue_rooms).0;
       rooms = (All-pop (λ (room : RecordRoom). HasRoom room (length g.h.heap.objects) (length c.args.scratch.now.roots.ambiguous.items) (length g.h.heap.pages))
           l.rooms.items c.pop.new.self.items c.pop.result c.pop.ensures.items inv.rooms).0;
       left = omega (arith, made.ensures.count, inv.left, one_less, l.rooms.ok.0, c.pop.new.self.ok.0);

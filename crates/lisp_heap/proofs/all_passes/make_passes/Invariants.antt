@@ -1,6 +1,8 @@
 -- The passes so far were made, and the planned one follows.
 use Rattle.std.proofs.Common.{◌≡◌, ◌+◌, ◌≤◌, length, vec_len, vec_capacity}
-use Rattle.lisp_heap.specs.AllPasses.{AreRooms, IsPlanned, Stand}
+use Rattle.finalizers.specs.Standing.{FinalizersStand}
+use Rattle.heap_terms.specs.Collections.{after_passes}
+use Rattle.lisp_heap.specs.AllPasses.{AreQueueRooms, AreRooms, IsPlanned, Stand}
 use Rattle.lisp_heap.proofs.PassesSoFar.{rooted_now}
 use Rattle.lisp_heap.proofs.all_passes.make_passes.Given as goal
 
@@ -14,6 +16,10 @@ invariant-loop-planned g l = record {
   ambiguous : l.scratch.roots.ambiguous.items ≡ l.fn.scratch.roots.ambiguous.items;
   room_pages : l.scratch.room.pages ≡ l.fn.scratch.room.pages;
   room_ambiguous : l.scratch.room.ambiguous ≡ l.fn.scratch.room.ambiguous;
+  finalizers : FinalizersStand (after_passes g.h.heap l.last 0 l.passes.items) l.finalizers;
+  fewer : length l.finalizers.registered ≤ length l.fn.finalizers.registered;
+  room_queued : l.scratch.room.queued ≡ l.fn.scratch.room.queued;
+  queue_rooms : AreQueueRooms l.rooms.items (length l.fn.finalizers.registered);
   rooms : AreRooms l.rooms.items (length g.h.heap.objects) (length l.fn.scratch.roots.ambiguous.items) (length g.h.heap.pages);
   left : vec_len l.rooms + vec_len l.passes ≡ 6;
   capacity : 6 ≤ vec_capacity l.passes;
