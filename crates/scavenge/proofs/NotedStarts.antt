@@ -169,11 +169,11 @@ module _ (a : NamedHeap) (s : CopyState) (weak : Starts) (h : Midway a s) (can :
     put = elim (cases_Bool (list_any (nat_eq start) weak.listed)) [
       | inl there ↦ rw there (record { each = can.each; once = can.once; here = there; stays = λ i e. e })
       | inr none ↦ rw none (record {
-          each = All-append (HasWeakAt a s) weak.listed (start ∷ []) can.each (All-cons (HasWeakAt a s) start [] at (All-nil (HasWeakAt a s)));
-          once = distinct-behind start weak.listed none can.once;
-          here = list_any-append (nat_eq start) weak.listed (start ∷ []) ∙ or_right (list_any (nat_eq start) weak.listed) _ (ap (λ (b : Bool). b || false) (eq-eqb start start refl));
-          stays = λ i e. list_any-append (nat_eq i) weak.listed (start ∷ []) ∙ ap (λ (b : Bool). b || list_any (nat_eq i) (start ∷ [])) e;
-        })
+        each = All-append (HasWeakAt a s) weak.listed (start ∷ []) can.each (All-cons (HasWeakAt a s) start [] at (All-nil (HasWeakAt a s)));
+        once = distinct-behind start weak.listed none can.once;
+        here = list_any-append (nat_eq start) weak.listed (start ∷ []) ∙ or_right (list_any (nat_eq start) weak.listed) _ (ap (λ (b : Bool). b || false) (eq-eqb start start refl));
+        stays = λ i e. list_any-append (nat_eq i) weak.listed (start ∷ []) ∙ ap (λ (b : Bool). b || list_any (nat_eq i) (start ∷ [])) e;
+      })
     ]
 
     pub put-in : Notes a s weak new
