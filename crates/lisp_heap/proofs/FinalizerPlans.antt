@@ -1,5 +1,5 @@
 -- What the commands on finalizers answer and change.
-use Rattle.std.proofs.Common.{◌≡◌, ◌≢◌, ℕ, ◌+◌, ◌<◌, List, [], ◌∷◌, ◌++◌, length, map, filter, count_by, not, Bool, true, false, eqb, cond, refl, sym, ◌∙◌, subst, ap, ap₂, arith, Option, Some, None, inl, inr}
+use Rattle.std.proofs.Common.{◌≡◌, ◌≢◌, ℕ, List, [], ◌∷◌, ◌++◌, length, filter, count_by, not, Bool, true, false, refl, sym, ◌∙◌, subst, ap, ap₂, Option, None, inl, inr}
 use Rattle.std.proofs.lemmas.Bool.{cases_eq, cases_Bool, eq-eqb, ne_eqb}
 use Rattle.std.proofs.lemmas.List.{map-append, length-map}
 use Rattle.std.proofs.lemmas.List.Sums.{length-filter}

@@ -1,20 +1,18 @@
 -- A World after a command on finalizers.
-use Rattle.std.proofs.Common.{◌≡◌, ℕ, ◌+◌, ◌<◌, List, length, sym, refl, ◌∙◌, subst, ap, arith, Some, get_or}
+use Rattle.std.proofs.Common.{◌≡◌, ℕ, ◌+◌, ◌<◌, length, sym, refl, ◌∙◌, subst, ap, arith, Some, get_or}
 use Rattle.heap_terms.specs.declared.answers.Answer.{Answer}
 use Rattle.heap_terms.specs.declared.commands.Command.{Command}
 use Rattle.heap_terms.specs.declared.events.Event.TheVariants.{Did}
 use Rattle.heap_terms.specs.declared.pages.Next.{Next}
 use Rattle.heap_terms.specs.declared.pages.Next.TheVariants as nexts
-use Rattle.heap_terms.specs.Heap.{NamedHeap, Thread, thread_at}
+use Rattle.heap_terms.specs.Heap.{NamedHeap, thread_at}
 use Rattle.heap_terms.specs.Histories.{IsNext, IsAnswer, after, after_command, command_at, next, advance}
-use Rattle.heap_terms.specs.Outcomes.{outcome_of}
 use Rattle.finalizers.specs.Lists.{Lists}
-use Rattle.generation_policy.specs.Numbers.{StatsStand}
 use Rattle.lisp_heap.specs.Agreement.{Agrees}
 use Rattle.lisp_heap.specs.FinalizerPlan.{IsFinalizerPlan}
 use Rattle.lisp_heap.specs.ParcelView.{ParcelView}
 use Rattle.lisp_heap.specs.Parts.{Parts}
-use Rattle.lisp_heap.specs.Standing.{Holds, CellsStand}
+use Rattle.lisp_heap.specs.Standing.{Holds}
 use Rattle.lisp_heap.specs.State.{state_of, advanced, fresh_state}
 use Rattle.lisp_heap.specs.WorldSound.{IsSound, parts_of}
 use Rattle.lisp_heap.specs.declared.states.ThreadState.{ThreadState}

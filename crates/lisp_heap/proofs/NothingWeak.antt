@@ -1,6 +1,6 @@
 -- A heap without weak pointers and tables: none is counted, and a pass culls, breaks and queues nothing.
-use Rattle.std.proofs.Common.{◌≡◌, ℕ, List, [], ◌∷◌, ◌++◌, map, Option, Some, None, Bool, true, false, refl, sym, ◌∙◌, ap, arith}
-use Rattle.std.specs.Prelude.{count_by, flat_map, filter, not, ◌&&◌, if◌then◌else◌}
+use Rattle.std.proofs.Common.{◌≡◌, ℕ, List, [], ◌∷◌, ◌++◌, map, Option, Some, None, Bool, true, false, refl, ◌∙◌, ap}
+use Rattle.std.specs.Prelude.{flat_map, filter, not, ◌&&◌, if◌then◌else◌}
 use Rattle.heap_terms.specs.declared.events.Cull.{Cull}
 use Rattle.heap_terms.specs.Generations.{names}
 use Rattle.heap_terms.specs.Heap.{NamedHeap, object_at}

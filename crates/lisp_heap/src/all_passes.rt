@@ -51,9 +51,7 @@ fn make_next(
     ensures count { vec_len passes.new ≡ vec_len passes.old + 1 }
     ensures capacity { vec_capacity passes.new ≡ vec_capacity passes.old }
 {
-    let made = make_counted_pass(
-        space, pages, finalizers, labels, scratch, stats, pass, room,
-    );
+    let made = make_counted_pass(space, pages, finalizers, labels, scratch, stats, pass, room);
     passes.push_reserved(made);
     plan_next(stats, last, Some(pass))
 }

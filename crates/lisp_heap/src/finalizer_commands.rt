@@ -21,7 +21,13 @@ impl World {
     /// `finalize`.
     #[cold]
     #[inline(never)]
-    pub(crate) fn finalized(&mut self, t: u32, command: Command, c: Cell, id: u32) -> Result<(), Memory>
+    pub(crate) fn finalized(
+        &mut self,
+        t: u32,
+        command: Command,
+        c: Cell,
+        id: u32,
+    ) -> Result<(), Memory>
         requires thread { t < length self.old.program.threads }
         requires command { command_at self.old.program (heap_of self.old) t ≡ Some command }
         requires simple { next_of self.old t ≡ Next.Simple }

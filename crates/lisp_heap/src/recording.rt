@@ -60,9 +60,7 @@ pub fn reserve_rooms(
 {
     let mut rooms = Vec::with_capacity(alloc, MOST_PASSES)?;
     for n in 0..MOST_PASSES {
-        rooms.push_reserved(RecordRoom::reserve(
-            alloc, moves, pins, freed, queued,
-        )?);
+        rooms.push_reserved(RecordRoom::reserve(alloc, moves, pins, freed, queued)?);
     }
     Ok(rooms)
 }

@@ -373,9 +373,8 @@ impl World {
             | Command::NewWeak { .. }
             | Command::NewTable { .. } => unreachable!(),
             // These are not built yet.
-            Command::TablePut { .. }
-            | Command::TableGet { .. }
-            | Command::TableRem { .. } => unreachable!(),
+            Command::TablePut { .. } | Command::TableGet { .. } | Command::TableRem { .. } =>
+                unreachable!(),
         }
     }
 

@@ -1,12 +1,11 @@
 -- `cancel` needs a reference.
-use Rattle.std.proofs.Common.{◌≡◌, subst, sym, ◌∙◌}
+use Rattle.std.proofs.Common.{subst, sym}
 use Rattle.heap_terms.specs.declared.answers.Answer.TheVariants as answers
 use Rattle.heap_terms.specs.declared.commands.Command.{Command}
-use Rattle.heap_terms.specs.declared.commands.Command.TheVariants as commands
 use Rattle.heap_terms.specs.Cells.{cell_value}
 use Rattle.lisp_heap.specs.FinalizerPlan.{IsFinalizerPlan, count_for, without}
 use Rattle.lisp_heap.specs.Plan.{IsPlan}
-use Rattle.lisp_heap.specs.View.{View, heap_of}
+use Rattle.lisp_heap.specs.View.{heap_of}
 use Rattle.lisp_heap.specs.declared.plan.Plan.{Plan}
 use Rattle.lisp_heap.proofs.FinalizerPlans.{cancel_refused, cancel_in}
 use Rattle.lisp_heap.proofs.WordReading.{cell_lives, cell_word_of}

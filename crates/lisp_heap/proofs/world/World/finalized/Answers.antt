@@ -1,12 +1,11 @@
 -- `finalize` needs a reference.
-use Rattle.std.proofs.Common.{◌≡◌, subst, sym, ◌∙◌}
+use Rattle.std.proofs.Common.{subst, sym}
 use Rattle.heap_terms.specs.declared.answers.Answer.TheVariants as answers
 use Rattle.heap_terms.specs.declared.commands.Command.{Command}
-use Rattle.heap_terms.specs.declared.commands.Command.TheVariants as commands
 use Rattle.heap_terms.specs.Cells.{cell_value}
 use Rattle.lisp_heap.specs.FinalizerPlan.{IsFinalizerPlan, with_one_more}
 use Rattle.lisp_heap.specs.Plan.{IsPlan}
-use Rattle.lisp_heap.specs.View.{View, heap_of}
+use Rattle.lisp_heap.specs.View.{heap_of}
 use Rattle.lisp_heap.specs.declared.plan.Plan.{Plan}
 use Rattle.lisp_heap.proofs.FinalizerPlans.{finalize_refused, finalize_in}
 use Rattle.lisp_heap.proofs.WordReading.{cell_lives, cell_word_of}

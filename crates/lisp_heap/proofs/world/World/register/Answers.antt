@@ -7,15 +7,12 @@ use Rattle.heap_terms.specs.Spelling.{word_of}
 use Rattle.heap_laws.proofs.NextEvents.{history_few}
 use Rattle.heap_laws.proofs.Reading.{replay-finalizers}
 use Rattle.finalizers.specs.Standing.{registration_of}
-use Rattle.heap_terms.specs.declared.answers.Answer.{Answer}
 use Rattle.heap_terms.specs.declared.events.Event.{Event}
 use Rattle.heap_terms.specs.declared.events.Event.TheVariants.{Did}
 use Rattle.heap_terms.specs.declared.pages.Next.TheVariants as nexts
 use Rattle.heap_terms.specs.Histories.{command_at, after}
-use Rattle.finalizers.specs.Lists.{Lists}
-use Rattle.lisp_heap.specs.FinalizerPlan.{IsFinalizerPlan, count_for, with_one_more, without, without_queue}
+use Rattle.lisp_heap.specs.FinalizerPlan.{IsFinalizerPlan, with_one_more}
 use Rattle.lisp_heap.specs.Standing.{Holds}
-use Rattle.lisp_heap.specs.State.{advanced}
 use Rattle.lisp_heap.specs.WorldSound.{IsSound, parts_of}
 use Rattle.lisp_heap.specs.View.{View, heap_of, next_of}
 use Rattle.lisp_heap.specs.declared.world.World.TheInside.{Inside}
