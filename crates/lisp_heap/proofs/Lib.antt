@@ -61,3 +61,4 @@ pub mod TablesHere
 pub mod TableSteps
 pub mod TablePlans
 pub mod TableReading
+pub mod TableActs
