@@ -72,6 +72,7 @@ pub fn run_pass(
         exact,
         &mut room.notes,
         &mut room.weak,
+        &mut room.waiting,
     );
     let target = target_of(pass);
     let traced = Traced {

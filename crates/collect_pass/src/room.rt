@@ -12,6 +12,7 @@ use page_sweep::HeldPages;
 use pin_set::PinSet;
 use std::alloc::Global;
 use std::marker::Model;
+use weak_refs::Waiting;
 
 /// What passes over one heap need beside it. It is reserved before the first pass, so that a pass
 /// takes no memory. Between passes all of it but the notes is clear.
@@ -21,6 +22,7 @@ pub struct PassRoom {
     pub(crate) hints: Hints,
     pub(crate) pins: PinSet,
     pub(crate) weak: PinSet,
+    pub(crate) waiting: Waiting,
     pub(crate) held: HeldPages,
     pub(crate) notes: PassNotes,
 }
@@ -49,6 +51,7 @@ impl PassRoom {
             hints: Hints::new(alloc, pages)?,
             pins: PinSet::new(alloc, ambiguous)?,
             weak: PinSet::new(alloc, weak)?,
+            waiting: Waiting::new(alloc, pages, weak)?,
             held: HeldPages::new(alloc, pages)?,
             notes: reserve_notes(alloc, pages, ambiguous, weak)?,
         })

@@ -18,7 +18,7 @@ use copy_space::{Copier, Marks, Pass, PassNotes};
 use page_table::PageTable;
 use pin_set::PinSet;
 use scavenge::{Scanned, scavenge_all, scavenge_older};
-use weak_refs::{break_dead, cull, ready_entries};
+use weak_refs::{Waiting, break_dead, cull, ready_entries};
 use word_space::Space;
 
 /// Gives each exact root the word of its value after the pass; what that refers to moves.
@@ -45,6 +45,7 @@ pub(crate) fn trace(
     exact: &mut [u64],
     notes: &mut PassNotes,
     weak: &mut PinSet,
+    waiting: &mut Waiting,
 )
     ghost h: { Rooted }
     requires { CanTrace h space.old pages.old marks.old pins.now.listed pass exact.old notes.old weak.old }
@@ -55,14 +56,14 @@ pub(crate) fn trace(
     let mut copier = Copier::new(space, pages, marks, pins, pass, notes);
     evacuate_roots(&mut copier, exact);
     scavenge_older(&mut copier, weak);
-    settle_all(&mut copier, weak);
+    settle_all(&mut copier, weak, waiting);
     cull(weak, &mut copier);
     break_dead(weak, &mut copier);
 }
 
 /// Scans what is settled, and settles what that and the pairs of tables keep, until nothing is left.
 /// What is settled then is the least set that the roots and everything settled keep.
-fn settle_all(copier: &mut Copier, weak: &mut PinSet)
+fn settle_all(copier: &mut Copier, weak: &mut PinSet, waiting: &mut Waiting)
     ghost a: { NamedHeap }
     requires { CanSettleAll a (state copier.old) weak.old }
     ensures scans { Scans a (state copier.old) (state copier.new) }
@@ -70,9 +71,10 @@ fn settle_all(copier: &mut Copier, weak: &mut PinSet)
     ensures noting { Notes a (state copier.new) weak.old weak.new }
     ensures same { IsSameCopier copier.old copier.new }
 {
+    waiting.begin();
     let nothing = Scanned { pins: 0, moves: 0 };
     let mut done = scavenge_all(copier, weak, nothing);
-    while ready_entries(weak, copier) {
+    while ready_entries(weak, copier, waiting) {
         done = scavenge_all(copier, weak, done);
     }
 }
