@@ -51,3 +51,4 @@ pub mod KeptThere
 pub mod CountedThere
 pub mod NextPass
 pub mod PassesSoFar
+mod Recalling

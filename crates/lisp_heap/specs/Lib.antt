@@ -22,3 +22,4 @@ pub mod ParcelSound
 pub mod Kept
 pub mod Counted
 pub mod AllPasses
+pub mod Recalling

@@ -7,7 +7,7 @@ ghost use Rattle.heap_terms.specs.declared.pages.Next.{Next};
 ghost use Rattle.heap_terms.specs.Phases.{collects, is_over};
 ghost use Rattle.lisp_heap.specs.Agreement.{Agrees, CanBuild, OthersAgree};
 ghost use Rattle.lisp_heap.specs.View.{heap_of, next_of};
-ghost use Rattle.replay_core.specs.Stepping.{HappensInside};
+ghost use Rattle.heap_turns.specs.Turns.{HappensInside};
 
 use heap_terms::{Kind, Memory, Next, Owned};
 use lisp_heap::{Lent, Parcel, World};
@@ -15,7 +15,7 @@ use lisp_heap::{Lent, Parcel, World};
 /// One event of the parcel's owner, which has not ended and for which no collection is due. For
 /// want of memory the World is as it was.
 #[inline(always)]
-pub(crate) fn event(world: &mut World, parcel: &mut Parcel) -> Result<bool, Memory>
+pub fn event(world: &mut World, parcel: &mut Parcel) -> Result<bool, Memory>
     requires thread { parcel.old.owner < length world.old.program.threads }
     requires agrees { Agrees (heap_of world.old) parcel.old }
     requires free { collects (next_of world.old parcel.old.owner) ≡ false }

@@ -1,4 +1,4 @@
--- What a machine keeps of its parcels.
+-- Parcels that are ready for any turn. This project's own.
 use Rattle.std.specs.Prelude.{◌≡◌, ℕ, ◌<◌, List, length, slice_index_or}
 use Rattle.lisp_heap.specs.Agreement.{Agrees}
 use Rattle.lisp_heap.specs.ParcelView.{ParcelView}

@@ -12,7 +12,7 @@ use Rattle.lisp_heap.specs.ParcelView.{ParcelView, empty_parcel}
 use Rattle.lisp_heap.specs.Ready.{AreByOwner, IsLowestBusy, owner_of}
 use Rattle.lisp_heap.specs.Ready as ready
 use Rattle.lisp_heap.specs.View.{View, heap_of}
-use Rattle.replay_core.specs.Parcels.{AreReady}
+use Rattle.heap_turns.specs.Parcels.{AreReady}
 
 -- what is due is a collection
 pub collection_of : (n : Next) → collects n ≡ true → (last : ℕ) × (n ≡ nexts.Collect last)
@@ -23,7 +23,7 @@ collection_of (nexts.Collect last) e = (last, refl)
 collection_of nexts.End e = absurd (false≢true e)
 collection_of nexts.Done e = absurd (false≢true e)
 
--- the parcels of a machine stand by owner
+-- parcels that are ready stand by owner
 pub by_owner : (w : View) (parcels : List ParcelView) → AreReady w parcels → AreByOwner parcels (length w.program.threads)
 by_owner w parcels h = ext_get_or 0 (map owner_of parcels) (range_with_len 0 (length w.program.threads))
     (length-map parcels owner_of ∙ h.count ∙ sym (length-range_with_len 0 (length w.program.threads)))

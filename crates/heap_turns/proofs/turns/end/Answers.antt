@@ -3,8 +3,8 @@ use Rattle.std.specs.Prelude.{◌==◌, not}
 use Rattle.heap_terms.specs.declared.pages.Next.TheVariants as nexts
 use Rattle.heap_terms.specs.Heap.{thread_at}
 use Rattle.lisp_heap.specs.View.{heap_of}
-use Rattle.replay_core.proofs.Sections.{inside_unless_open}
-use Rattle.replay_core.proofs.turns.end.Goals as goal
+use Rattle.heap_turns.proofs.Sections.{inside_unless_open}
+use Rattle.heap_turns.proofs.turns.end.Goals as goal
 
 pub returns-clause-ok : goal.returns-clause-ok
 returns-clause-ok c =

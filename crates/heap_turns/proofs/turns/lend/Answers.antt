@@ -5,8 +5,8 @@ use Rattle.lisp_heap.specs.declared.allocating.Lent.{Lent}
 use Rattle.lisp_heap.specs.declared.allocating.Lent.TheVariants as lents
 use Rattle.lisp_heap.specs.Agreement.{Lends}
 use Rattle.lisp_heap.specs.View.{heap_of}
-use Rattle.replay_core.proofs.Sections.{inside_opened, inside_exhausted}
-use Rattle.replay_core.proofs.turns.lend.Goals as goal
+use Rattle.heap_turns.proofs.Sections.{inside_opened, inside_exhausted}
+use Rattle.heap_turns.proofs.turns.lend.Goals as goal
 
 pub returns-in-Opened-clause-ok : goal.returns-in-Opened-clause-ok
 returns-in-Opened-clause-ok c =

@@ -4,8 +4,8 @@ use Rattle.heap_terms.specs.declared.pages.Next.TheVariants as nexts
 use Rattle.heap_terms.specs.Heap.{thread_at}
 use Rattle.lisp_heap.specs.Events.{Happens}
 use Rattle.lisp_heap.specs.View.{heap_of}
-use Rattle.replay_core.proofs.Sections.{inside_unless_open}
-use Rattle.replay_core.proofs.turns.perform.Goals as goal
+use Rattle.heap_turns.proofs.Sections.{inside_unless_open}
+use Rattle.heap_turns.proofs.turns.perform.Goals as goal
 
 pub returns-clause-ok : goal.returns-clause-ok
 returns-clause-ok c =

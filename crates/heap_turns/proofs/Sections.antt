@@ -18,7 +18,7 @@ use Rattle.heap_terms.specs.Layout.{page_type_of, size_of}
 use Rattle.lisp_heap.specs.ParcelView.{ParcelView, region_built, small_built, with_built}
 use Rattle.lisp_heap.specs.declared.parcels.Making.{Making}
 use Rattle.lisp_heap.specs.View.{View, heap_of, next_of}
-use Rattle.replay_core.specs.Stepping.{HappensInside}
+use Rattle.heap_turns.specs.Turns.{HappensInside}
 
 -- a thread that opens nothing next opens nothing
 pub not_opened : (p : Program) (a : NamedHeap) (e : Event) → IsNext p a e → next p a (thread_of e) ≢ nexts.Open → opens e ≡ false

@@ -1,4 +1,4 @@
--- The parcels of a machine: at first, and after a turn of one thread.
+-- Parcels that are ready: at first, and after a turn of one thread.
 use Rattle.std.proofs.Common.{◌≡◌, ℕ, ◌<◌, List, [], length, refl, sym, ◌∙◌, subst, ap, inl, inr, get_or, set}
 use Rattle.std.proofs.lemmas.Bool.{cases_eq}
 use Rattle.std.proofs.lemmas.List.{get_or-set_same, get_or-set_other, length-set}
@@ -10,7 +10,7 @@ use Rattle.heap_laws.proofs.SoundHeaps.{start_thread}
 use Rattle.lisp_heap.specs.Agreement.{Agrees, AreFresh, OthersAgree}
 use Rattle.lisp_heap.specs.ParcelView.{ParcelView, empty_parcel}
 use Rattle.lisp_heap.specs.View.{View, heap_of}
-use Rattle.replay_core.specs.Parcels.{AreReady}
+use Rattle.heap_turns.specs.Parcels.{AreReady}
 
 -- the parcel of the thread that had the turn is written back, and the others still agree
 pub ready_after : (old new : View) (ps : List ParcelView) (t : ℕ) (q : ParcelView) → AreReady old ps → t < length ps →

@@ -5,8 +5,8 @@ use Rattle.heap_terms.specs.Heap.{thread_at}
 use Rattle.lisp_heap.specs.Events.{Happens}
 use Rattle.lisp_heap.specs.ParcelView.{ParcelView}
 use Rattle.lisp_heap.specs.View.{heap_of}
-use Rattle.replay_core.proofs.Sections.{inside_unless_open, built_owner}
-use Rattle.replay_core.proofs.turns.commit.Goals as goal
+use Rattle.heap_turns.proofs.Sections.{inside_unless_open, built_owner}
+use Rattle.heap_turns.proofs.turns.commit.Goals as goal
 
 pub returns-clause-ok : goal.returns-clause-ok
 returns-clause-ok c =
