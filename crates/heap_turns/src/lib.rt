@@ -7,4 +7,4 @@ mod collections;
 mod turns;
 
 pub use collections::collect_alone;
-pub use turns::event;
+pub use turns::{event, turn};

@@ -7,8 +7,11 @@ ghost use Rattle.heap_terms.specs.declared.pages.Next.{Next};
 ghost use Rattle.heap_terms.specs.Phases.{collects, is_over};
 ghost use Rattle.lisp_heap.specs.Agreement.{Agrees, CanBuild, OthersAgree};
 ghost use Rattle.lisp_heap.specs.View.{heap_of, next_of};
-ghost use Rattle.heap_turns.specs.Turns.{HappensInside};
+ghost use Rattle.lisp_heap.specs.Events.{Happens};
+ghost use Rattle.heap_turns.specs.Parcels.{AreReady};
+ghost use Rattle.heap_turns.specs.Turns.{HappensInside, MayGo};
 
+use crate::collections::collect_alone;
 use heap_terms::{Kind, Memory, Next, Owned};
 use lisp_heap::{Lent, Parcel, World};
 
@@ -108,4 +111,20 @@ fn end(world: &mut World, parcel: &mut Parcel) -> Result<bool, Memory>
 {
     world.end(parcel)?;
     Ok(world.inhibits(parcel.owner()))
+}
+
+/// One event of thread t, which may go on: its collection where one is due, and else an event inside
+/// its section. For want of memory the World is as it was.
+pub fn turn(world: &mut World, parcels: &mut [Parcel], t: u32) -> Result<(), Memory>
+    requires ready { AreReady world.old parcels.old }
+    requires goes { MayGo world.old t }
+    ensures ok { OnOk result (Happens t world.old world.new) }
+    ensures ready { AreReady world.new parcels.new }
+    ensures err { OnErr result (world.new ≡ world.old) }
+{
+    if world.is_due(t) {
+        return collect_alone(world, t, parcels);
+    }
+    let _stays = event(world, &mut parcels[t as usize])?;
+    Ok(())
 }

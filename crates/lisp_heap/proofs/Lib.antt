@@ -51,4 +51,5 @@ pub mod KeptThere
 pub mod CountedThere
 pub mod NextPass
 pub mod PassesSoFar
-mod Recalling
+mod ReopenedRegions
+mod ParcelLists

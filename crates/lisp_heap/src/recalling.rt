@@ -83,8 +83,8 @@ impl World {
         ensures { OnOk result (parcel.new ≡ with_small parcel.old ty (leases_on (heap_of self.now).pages ty page)) }
     {
         if let Some(page) = page {
-            let next = PAGE_WORDS * page + self.fill(page);
-            let region = Region::reopen(self.alloc, ty, page, 1, next)?;
+            let fill = self.fill(page);
+            let region = Region::reopen(self.alloc, ty, page, 1, PAGE_WORDS * page + fill)?;
             parcel.adopt(region);
         }
         Ok(())

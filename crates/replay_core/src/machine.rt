@@ -17,7 +17,7 @@ ghost use Rattle.replay_core.specs.declared.machine.Stepped.TheVariants as stepp
 use crate::tables::{after_step, has_gone, release_from, task_for};
 use heap_terms::{Memory, Phase, Program, Seq, StepAnswer, Task, WordLine, WordStep};
 use heap_turns::{collect_alone, event};
-use lisp_heap::{Parcel, World};
+use lisp_heap::{Parcel, World, put_away_all};
 use pseudo_atomic::{StopState, word_step};
 use std::alloc::Global;
 use std::marker::Model;
@@ -303,12 +303,4 @@ fn told(thread: u32, step: WordStep, answer: StepAnswer) -> Stepped
             answer,
         }),
     }
-}
-
-/// Puts all parcels away.
-fn put_away_all(mut parcels: Vec<Parcel>) {
-    while let Some(parcel) = parcels.pop() {
-        let _regions = parcel.put_away();
-    }
-    parcels.destroy_empty();
 }

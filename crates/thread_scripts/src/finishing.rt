@@ -1,13 +1,13 @@
 //! What is left once all workers have returned, by turns.
 
-ghost use Rattle.std.specs.Prelude.{◌≡◌, ◌<◌, ℕ, length, OnOk, IfOk, MatchOption};
+ghost use Rattle.std.specs.Prelude.{◌≡◌, OnOk, IfOk, MatchOption};
 ghost use Rattle.heap_terms.specs.Complete.{IsComplete};
 ghost use Rattle.heap_turns.specs.Parcels.{AreReady};
-ghost use Rattle.lisp_heap.specs.Events.{Happens};
-ghost use Rattle.thread_scripts.specs.Finished.{AllDone, MayGo, NoneInhibits, NoneOut};
+ghost use Rattle.heap_turns.specs.Turns.{MayGo, NoneInhibits};
+ghost use Rattle.thread_scripts.specs.Finished.{AllDone, NoneOut};
 
 use heap_terms::Memory;
-use heap_turns::{collect_alone, event};
+use heap_turns::turn;
 use lisp_heap::{Parcel, World, put_away_all};
 
 /// Runs a World to its end, each thread as the rules say: a thread that inhibits goes first, since no
@@ -70,19 +70,4 @@ fn lowest_alive(world: &World) -> Option<u32>
         }
     }
     None
-}
-
-/// One event of a thread that may go on.
-fn turn(world: &mut World, parcels: &mut [Parcel], t: u32) -> Result<(), Memory>
-    requires ready { AreReady world.old parcels.old }
-    requires goes { MayGo world.old t }
-    ensures ok { OnOk result (Happens t world.old world.new) }
-    ensures ready { AreReady world.new parcels.new }
-    ensures program { world.new.program ≡ world.old.program }
-{
-    if world.is_due(t) {
-        return collect_alone(world, t, parcels);
-    }
-    let _stays = event(world, &mut parcels[t as usize])?;
-    Ok(())
 }

@@ -39,3 +39,23 @@ collect_alone-requires-clause-allowed c =
     let s = c.self.inside in
     let a = asked s c.args.self.now c.args.t Collecting Happen c.self.view_is c.requires.thread c.requires.collecting refl in
     (is_alone s c.args.t c.self.invariant a).allowed
+
+pub invariant_of-self-2 : goal.invariant_of-self-2
+invariant_of-self-2 c =
+    let s = c.self.inside in
+    let t = c.args.t in
+    let new = c.collect_alone.new.world in
+    let a = asked s c.args.self.now t Collecting Happen c.self.view_is c.requires.thread c.requires.collecting refl in
+    let h : Happens t s.world new = c.in_ok-collect_alone.ensures.ok in
+    let phases = c.set.ensures ∙ ap (λ (x : Phase). set s.phases t x) (c.release_from.ensures ∙ ap (λ (n : ℕ). releasing_from n t 0) c.threads-threads.ensures) in
+    let program = ap (λ (p : Program). length p.threads) h.program in
+    let ready : AreReady new c.collect_alone.new.parcels = c.collect_alone.ensures.ready in
+    let same_length : length c.collect_alone.new.parcels ≡ s.parcels.len =
+    ready.count ∙ program ∙ sym c.self.invariant.ready.count ∙ sym (ap (λ (ps : List ParcelView). length ps) c.as_mut_slice.ensures.value) ∙ c.as_mut_slice.ensures.len in
+    let same = phases ∙ ap (λ (n : ℕ). set s.phases t (releasing_from n t 0)) program in
+    record {
+      valid = subst (λ (p : Program). IsValid p) (sym h.program) c.self.invariant.valid;
+      ready = subst (λ (ps : List ParcelView). AreReady new ps) (sym (with_items_is s.parcels c.collect_alone.new.parcels same_length)) ready;
+      orderly = event_orderly (view_of s) (seen new s.stops.turn s.stops.words c.set.new.self) t c.self.invariant.valid c.self.invariant.orderly a.thread a.is
+          (collection_done s.world new s.stops.turn s.stops.words s.phases c.set.new.self t h a.phase same);
+    }

@@ -1,0 +1,2 @@
+mod ClosedThreads
+mod Ends
