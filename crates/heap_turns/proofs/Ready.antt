@@ -1,5 +1,5 @@
 -- Parcels that are ready: at first, and after a turn of one thread.
-use Rattle.std.proofs.Common.{◌≡◌, ℕ, ◌<◌, List, [], length, refl, sym, ◌∙◌, subst, ap, inl, inr, get_or, set}
+use Rattle.std.proofs.Common.{◌≡◌, ℕ, ◌<◌, List, [], length, refl, sym, ◌∙◌, subst, ap, inl, inr, get_or, set, arith}
 use Rattle.std.proofs.lemmas.Bool.{cases_eq}
 use Rattle.std.proofs.lemmas.List.{get_or-set_same, get_or-set_other, length-set}
 use Rattle.heap_terms.specs.declared.events.Event.{Event}
@@ -35,6 +35,14 @@ ready_after old new ps t q ready inside program owner agrees others =
   where
     at_own : (P : ParcelView → Type 0) (u : ℕ) (d : ParcelView) → u ≡ t → P q → P (get_or (set ps t q) u d)
     at_own P u d e h = subst (λ (k : ℕ). P (get_or (set ps t q) k d)) (sym e) (subst P (sym (get_or-set_same ps t q d inside)) h)
+
+-- the same, where the parcel was found at its thread's place
+pub ready_turned : (old new : View) (ps : List ParcelView) (t : ℕ) (before after : ParcelView) → AreReady old ps → t < length old.program.threads → before ≡ get_or ps t before →
+    new.program ≡ old.program → after.owner ≡ before.owner → Agrees (heap_of new) after → OthersAgree (heap_of old) (heap_of new) before.owner → AreReady new (set ps t after)
+ready_turned old new ps t before after ready l found program same agrees others =
+    let inside : t < length ps = (let count = ready.count in omega arith) in
+    let owner : before.owner ≡ t = ap (λ (q : ParcelView). q.owner) found ∙ ready.owners t before inside in
+    ready_after old new ps t after ready inside program (same ∙ owner) agrees (subst (λ (u : ℕ). OthersAgree (heap_of old) (heap_of new) u) owner others)
 
 -- before the first event a parcel without regions agrees
 empty_agrees : (p : Program) (t : ℕ) → Agrees (start p) (empty_parcel t)
