@@ -1,2 +1,3 @@
 mod ClosedThreads
 mod Ends
+mod Seated

@@ -1,6 +1,6 @@
 //! What the lock keeps: the World, and whether memory ran out.
 
-ghost use Rattle.std.specs.Prelude.{◌≡◌, ◌<◌, ◌×◌, length, map, IfOk};
+ghost use Rattle.std.specs.Prelude.{◌≡◌, ◌<◌, length, map, IfOk};
 ghost use Rattle.lisp_heap.specs.Ready.{AreByOwner, owner_of};
 ghost use Rattle.lisp_heap.specs.View.{View};
 

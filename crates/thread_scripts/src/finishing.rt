@@ -22,6 +22,8 @@ pub(crate) fn finish(world: World) -> Result<World, Memory>
     let ended = end_all(&mut world, parcels.as_mut_slice());
     put_away_all(parcels);
     ended?;
+    // Looked into here, for what a World keeps true.
+    let _history = world.history();
     Ok(world)
 }
 
@@ -32,6 +34,8 @@ fn end_all(world: &mut World, parcels: &mut [Parcel]) -> Result<(), Memory>
     ensures done { OnOk result (AllDone world.new) }
 {
     while let Some(t) = who_goes_on(world) {
+        // Looked into here: what a World keeps true bounds its history.
+        let _history = world.history();
         turn(world, parcels, t)?;
     }
     Ok(())
@@ -51,6 +55,8 @@ fn who_goes_on(world: &World) -> Option<u32>
 fn lowest_inhibiting(world: &World) -> Option<u32>
     ensures { MatchOption result (NoneInhibits world.now) (MayGo world.now) }
 {
+    // Looked into here, for what a World keeps true.
+    let _history = world.history();
     for t in 0..world.threads() {
         if world.inhibits(t) {
             return Some(t);
@@ -64,6 +70,8 @@ fn lowest_alive(world: &World) -> Option<u32>
     requires { NoneInhibits world.now }
     ensures { MatchOption result (AllDone world.now) (MayGo world.now) }
 {
+    // Looked into here, for what a World keeps true.
+    let _history = world.history();
     for t in 0..world.threads() {
         if !world.has_ended(t) {
             return Some(t);

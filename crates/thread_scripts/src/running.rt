@@ -1,6 +1,6 @@
 //! A whole run of a program on threads.
 
-ghost use Rattle.std.specs.Prelude.{◌≡◌, ◌×◌, ◌≤◌, [], length, All, IfOk, vec_len, vec_capacity};
+ghost use Rattle.std.specs.Prelude.{◌≡◌, ◌≤◌, [], length, All, IfOk, vec_len, vec_capacity};
 ghost use Rattle.heap_terms.specs.Complete.{IsComplete};
 ghost use Rattle.heap_terms.specs.Valid.{IsValid};
 ghost use Rattle.lisp_heap.specs.Agreement.{AreFresh};
@@ -43,7 +43,7 @@ pub fn run_threads<R: Threads + Wait + Sync, G: Gate>(
 }
 
 /// The same of the program of a name.
-fn run_named<N: Naming, R: Threads + Wait + Sync, G: Gate>(
+fn run_named<N: Naming + Send, R: Threads + Wait + Sync, G: Gate>(
     rt: &R,
     alloc: Global,
     program: Program,
@@ -62,7 +62,7 @@ fn run_named<N: Naming, R: Threads + Wait + Sync, G: Gate>(
 }
 
 /// All workers, from the first step of the first to the return of the last.
-fn run_workers<N: Naming, R: Threads + Wait + Sync, G: Gate>(
+fn run_workers<N: Naming + Send, R: Threads + Wait + Sync, G: Gate>(
     rt: &R,
     alloc: Global,
     world: World,
@@ -94,7 +94,7 @@ fn run_workers<N: Naming, R: Threads + Wait + Sync, G: Gate>(
 }
 
 /// Runs the worker of each seat, and waits for all of them.
-fn run_all<N: Naming, R: Threads + Wait + Sync, G: Gate>(
+fn run_all<N: Naming + Send, R: Threads + Wait + Sync, G: Gate>(
     rt: &R,
     alloc: Global,
     words: &StopWords<Parcel>,

@@ -1,6 +1,6 @@
 //! The sections of a worker: its events, and its collections.
 
-ghost use Rattle.std.specs.Prelude.{◌≡◌, ◌×◌, ◌<◌, ◌≤◌, [], length, true, false, vec_capacity, MatchOption};
+ghost use Rattle.std.specs.Prelude.{◌≡◌, ◌<◌, ◌≤◌, [], length, true, false, vec_capacity, MatchOption};
 ghost use Rattle.stop_words.specs.Owners.{ByOwner};
 ghost use Rattle.stop_words.specs.Seats.{view_of, is_out, IsSeatOf, threads_of, parcels_of};
 ghost use Rattle.stop_words.specs.Views.{PostedToAll};

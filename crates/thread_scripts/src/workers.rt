@@ -1,6 +1,6 @@
 //! A worker: one thread of a script, from its first step to its last park.
 
-ghost use Rattle.std.specs.Prelude.{◌≡◌, ◌×◌, ◌<◌, length, false, MatchOption};
+ghost use Rattle.std.specs.Prelude.{◌≡◌, ◌<◌, length, false, MatchOption};
 ghost use Rattle.stop_words.specs.Seats.{view_of, threads_of};
 ghost use Rattle.thread_scripts.specs.Workers.{IsAt};
 
@@ -34,9 +34,11 @@ fn run<N: Naming, R: Wait, G: Gate>(
     let mut own = own;
     let mut step = first;
     for _ in rt.forever() {
-        let mut stopped = false;
         match step {
-            Step::Finish | Step::GiveUp => break,
+            Step::Finish | Step::GiveUp => {
+                words.park(seat, own);
+                return step;
+            }
             Step::Collect | Step::Again => {
                 match collect(rt, alloc, words, desk, gate, seat, own) {
                     None => return Step::Collect,
@@ -48,18 +50,18 @@ fn run<N: Naming, R: Wait, G: Gate>(
             }
             Step::Leave | Step::Stay => {
                 let Entry::Entered = words.enter(seat) else {
-                    break;
+                    words.park(seat, own);
+                    return step;
                 };
                 step = section(rt, desk, gate, &mut own);
-                stopped = words.leave(seat);
+                if words.leave(seat) {
+                    words.park(seat, own);
+                    return step;
+                }
             }
         }
-        if stopped {
-            break;
-        }
     }
-    words.park(seat, own);
-    step
+    unreachable!()
 }
 
 /// The whole way of a thread.
