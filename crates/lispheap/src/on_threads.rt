@@ -73,9 +73,16 @@ fn is_run(words: &[String]) -> bool
     ensures { IsTrue result ↔ IsRun (map string_bytes words.now) }
 {
     match words {
-        [word] => word.as_str() == "run",
+        [word] => is_run_word(word),
         _ => false,
     }
+}
+
+/// Whether a word is `run`.
+fn is_run_word(word: &String) -> bool
+    ensures { IsTrue result ↔ (string_bytes word.now ≡ codes "run") }
+{
+    word.as_str() == "run"
 }
 
 /// Runs a script on threads, and answers the status.
