@@ -83,6 +83,7 @@ const TURNS_MORE: u64 = 200_000;
 
 /// A gate that holds thread 1 at its first event until thread 0 is at its own, and thread 0 there until thread 1
 /// has had two events, and then for some turns more.
+#[derive(Drop)]
 struct HoldingGate {
     // How often each of the two threads was at an event, and how many events thread 1 has had.
     first: AtomicU64,
