@@ -13,6 +13,7 @@ pub mod Wishes
 pub mod Commits
 pub mod Counting
 pub mod LivingWords
+pub mod LookUps
 pub mod Leases
 pub mod Ready
 pub mod Rooting

@@ -31,6 +31,8 @@ mod rooting;
 mod scratch;
 mod stat_commands;
 mod states;
+mod table_commands;
+mod weak_commands;
 mod wishes;
 mod world;
 

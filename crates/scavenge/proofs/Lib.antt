@@ -2,6 +2,8 @@ pub mod Shapes
 pub mod Frames
 pub mod OneField
 pub mod FirstWord
+pub mod NotedStarts
+pub mod NotedObjects
 pub mod QueueLaws
 pub mod Edges
 pub mod OlderPieces

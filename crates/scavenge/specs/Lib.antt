@@ -1,3 +1,4 @@
+pub mod Noting
 pub mod Scanning
 pub mod Fields
 pub mod Older
