@@ -82,6 +82,7 @@ impl<T: Copy> Prefilled<T> {
     }
 
     /// The element at `i`.
+    #[inline(always)]
     pub fn at(&self, i: usize) -> T
         requires { i < length self.now }
         ensures { result ≡ slice_index_or self.now i result }
@@ -94,7 +95,22 @@ impl<T: Copy> Prefilled<T> {
     }
 
     /// Writes the element at `i`. It takes no memory.
+    #[inline(always)]
     pub fn set(&mut self, i: usize, value: T)
+        requires { i < length self.old }
+        ensures { self.new ≡ slice_set self.old i value }
+    {
+        if i < self.kept.len() {
+            self.kept[i] = value;
+        } else {
+            self.set_beyond(i, value);
+        }
+    }
+
+    /// The same of an element that may lie behind those that are filled in.
+    #[cold]
+    #[inline(never)]
+    fn set_beyond(&mut self, i: usize, value: T)
         requires { i < length self.old }
         ensures { self.new ≡ slice_set self.old i value }
     {

@@ -49,6 +49,7 @@ impl Space {
     }
 
     /// The word at an index.
+    #[inline(always)]
     pub fn read(&self, index: u32) -> u64
         requires { index < length self.now }
         ensures { result ≡ slice_index self.now index }
@@ -57,6 +58,7 @@ impl Space {
     }
 
     /// Writes the word at an index. Every other word stays.
+    #[inline(always)]
     pub fn write(&mut self, index: u32, word: u64)
         requires { index < length self.old }
         ensures { self.new ≡ slice_set self.old index word }

@@ -1,8 +1,7 @@
 use Rattle.std.proofs.Common.{set, ap, ◌∙◌, arith}
 use Rattle.word_space.proofs.Filling.{filled_more, set_filled}
-use Rattle.word_space.proofs.prefilled.Prefilled.set.Goals as goal
+use Rattle.word_space.proofs.prefilled.Prefilled.set_beyond.Goals as goal
 
--- src/prefilled.rt:96:5
 pub returns : goal.returns
 returns g c =
     let kept = c.fill_up.new.kept.items in
