@@ -1,8 +1,11 @@
 //! The buffer to which the journal is appended. A line reserves its room at its start; what is
 //! appended to it then takes no memory and makes no test.
 
-ghost use Rattle.std.specs.Prelude.{◌≡◌, ◌+◌, ◌≤◌, [], ◌++◌, length, OnOk, IfOk};
+ghost use Rattle.std.specs.Prelude.{◌≡◌, ◌+◌, ◌≤◌, [], ◌++◌, length, OnOk, IfOk, decimal};
+ghost use Rattle.heap_terms.specs.Text.{field, name_text, index_text};
 
+use crate::cursor::{put_number, put_object};
+use crate::room::{NUMBER, OBJECT};
 use std::alloc::{AllocError, Global};
 use std::marker::Model;
 
@@ -81,6 +84,28 @@ impl Text {
         let end = start + piece.len();
         self.bytes[start..end].copy_from_slice(piece);
         self.end = end;
+    }
+
+    /// Appends a number, for which there is room.
+    #[inline(always)]
+    pub fn push_number(&mut self, n: u64)
+        requires { NUMBER ≤ self.old.room }
+        ensures text { self.new.text ≡ self.old.text ++ decimal n }
+        ensures room { self.old.room ≤ self.new.room + NUMBER }
+    {
+        let start = self.end;
+        self.end = put_number(self.bytes.as_mut_slice(), start, n);
+    }
+
+    /// Appends a word and, each as a field, the name of an object and an index. There is room for it.
+    #[inline(always)]
+    pub fn push_object<const N: usize>(&mut self, word: &[u8; N], name: u32, index: u32)
+        requires { N + OBJECT ≤ self.old.room }
+        ensures text { self.new.text ≡ self.old.text ++ (word.now ++ (field (name_text name) ++ field (index_text index))) }
+        ensures room { self.old.room ≤ self.new.room + (N + OBJECT) }
+    {
+        let start = self.end;
+        self.end = put_object(self.bytes.as_mut_slice(), start, word, name, index);
     }
 
     /// Appends bytes.

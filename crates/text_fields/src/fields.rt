@@ -7,7 +7,8 @@ ghost use Rattle.heap_terms.specs.Text.{cell_text, cell_field, raw_field, number
 use crate::buffer::Text;
 use crate::numbers::{push_number, push_number_field, push_signed_field, push_small};
 use crate::room::{
-    CELL_FIELD, INDEX, INDEX_FIELD, NAME_FIELD, NUMBER, NUMBER_FIELD, VALUE_FIELD, WORD, WORD_FIELD,
+    CELL_FIELD, INDEX, INDEX_FIELD, NAME_FIELD, NUMBER, NUMBER_FIELD, OBJECT, VALUE_FIELD, WORD,
+    WORD_FIELD,
 };
 use heap_terms::{Cell, Raw, Value};
 use std::alloc::AllocError;
@@ -145,6 +146,16 @@ pub fn push_index_field(out: &mut Text, index: u32)
 {
     push(out, b" @");
     push_number(out, index as u64);
+}
+
+/// Appends a word and, each as a field, the name of an object and an index.
+#[inline(always)]
+pub fn push_object<const N: usize>(out: &mut Text, word: &[u8; N], name: u32, index: u32)
+    requires { N + OBJECT ≤ out.old.room }
+    ensures text { out.new.text ≡ out.old.text ++ (word.now ++ (field (name_text name) ++ field (index_text index))) }
+    ensures room { out.old.room ≤ out.new.room + (N + OBJECT) }
+{
+    out.push_object(word, name, index);
 }
 
 /// Appends a value as a field.
