@@ -4,7 +4,7 @@ use Rattle.copy_space.specs.State.{state}
 use Rattle.scavenge.proofs.Frames.{scans-same, scans-on, same-self, same-on}
 use Rattle.scavenge.proofs.NotedStarts.{notes-none, notes-over}
 use Rattle.scavenge.proofs.OlderPages.{page-edge, pieces-on}
-use Rattle.scavenge.proofs.older.scan_page.Goals as goal
+use Rattle.scavenge.proofs.older.scan_pieces.Goals as goal
 
 pub loop-index-init : goal.loop-index-init
 loop-index-init g c = record {

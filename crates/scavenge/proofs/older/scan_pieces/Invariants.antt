@@ -4,7 +4,7 @@ use Rattle.scavenge.specs.Fields.{IsSameCopier}
 use Rattle.scavenge.specs.Older.{IsEdge, AreObjectsScanned}
 use Rattle.scavenge.specs.Noting.{Notes}
 use Rattle.scavenge.specs.Scanning.{Scans}
-use Rattle.scavenge.proofs.older.scan_page.Given as goal
+use Rattle.scavenge.proofs.older.scan_pieces.Given as goal
 
 abbrev pub ghost-scan_piece : goal.ghost-scan_piece
 ghost-scan_piece g a = g.a
