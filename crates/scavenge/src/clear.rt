@@ -56,6 +56,7 @@ fn is_clear(space: &Space, pages: &PageTable, from: u32, count: u32, generation:
     requires { from + count ≤ length space.now }
     ensures { result ≡ true → AreElsewhere space.now pages.now generation from count }
 {
+    prove!(count <= PAGE_WORDS * space.pages());
     for index in from..from + count {
         if refers_to(pages, space.read(index), generation) {
             return false;
@@ -69,7 +70,10 @@ fn holds_conses(entry: Entry) -> bool
     ensures { result ≡ has_conses entry }
 {
     match entry {
-        Entry::Used { ty: PageType::Cons, .. } => true,
+        Entry::Used {
+            ty: PageType::Cons,
+            ..
+        } => true,
         Entry::Used { .. } | Entry::Free => false,
     }
 }
@@ -91,6 +95,7 @@ pub(crate) fn needs_no_scan(copier: &Copier, page: u32, words: u32, idle: bool) 
     if idle {
         return true;
     }
+    prove!(page < copier.pages().len());
     let generation = copier.pass().generation;
     is_clear(
         copier.space(),

@@ -1,6 +1,6 @@
 //! The older roots: the fields of the objects that a pass does not collect.
 
-ghost use Rattle.std.specs.Prelude.{◌≡◌, ◌≢◌, ℕ, ◌+◌, ◌*◌, ◌%◌};
+ghost use Rattle.std.specs.Prelude.{◌≡◌, ◌≢◌, ℕ, ◌+◌, ◌*◌, ◌%◌, true};
 ghost use Rattle.heap_terms.specs.Heap.{NamedHeap};
 ghost use Rattle.heap_terms.specs.Layout.{page_words, size_of as words_of};
 ghost use Rattle.heap_terms.specs.declared.kinds.Kind.{Kind};
