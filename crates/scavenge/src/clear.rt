@@ -1,7 +1,7 @@
 //! Pages of conses that need no scan, since no word on them refers to the generation that is collected.
 //! Reading alone tells that, and is faster than a scan.
 
-ghost use Rattle.std.specs.Prelude.{◌≡◌, ◌+◌, ◌*◌, ◌/◌, ◌<◌, ◌≤◌, length, true, false};
+ghost use Rattle.std.specs.Prelude.{◌≡◌, ◌+◌, ◌*◌, ◌<◌, ◌≤◌, length, true, false};
 ghost use Rattle.heap_terms.specs.Heap.{entry_at};
 ghost use Rattle.heap_terms.specs.Layout.{page_words};
 ghost use Rattle.copy_space.specs.Pages.{is_page_of};
@@ -51,18 +51,29 @@ fn refers_to(pages: &PageTable, word: u64, generation: u8) -> bool
     }
 }
 
-/// Whether none of so many words from an index on does.
-fn is_clear(space: &Space, pages: &PageTable, from: u32, count: u32, generation: u8) -> bool
-    requires { from + count ≤ length space.now }
-    ensures { result ≡ true → AreElsewhere space.now pages.now generation from count }
+/// Whether none of these words does.
+fn are_clear(words: &[u64], pages: &PageTable, generation: u8) -> bool
+    ensures { result ≡ true → AreElsewhere words.now pages.now generation 0 (length words.now) }
 {
-    prove!(count <= PAGE_WORDS * space.pages());
-    for index in from..from + count {
-        if refers_to(pages, space.read(index), generation) {
+    for word in words {
+        if refers_to(pages, *word, generation) {
             return false;
         }
     }
     true
+}
+
+/// Whether none of so many words from an index on does. Where not all of them have been
+/// written to, that is not said.
+#[inline(never)]
+fn is_clear(space: &Space, pages: &PageTable, from: u32, count: u32, generation: u8) -> bool
+    requires { from + count ≤ length space.now }
+    ensures { result ≡ true → AreElsewhere space.now pages.now generation from count }
+{
+    match space.window(from, count) {
+        Some(words) => are_clear(words, pages, generation),
+        None => false,
+    }
 }
 
 /// Whether a page is in use for conses.
@@ -80,6 +91,7 @@ fn holds_conses(entry: Entry) -> bool
 
 /// Whether nothing that begins below so many words of a page needs a scan. `idle` says that no page is
 /// of the generation that is collected.
+#[inline(always)]
 pub(crate) fn needs_no_scan(copier: &Copier, page: u32, words: u32, idle: bool) -> bool
     requires page { page < length copier.now.pages.now }
     requires words { page_words * page + words ≤ length copier.now.space.now }

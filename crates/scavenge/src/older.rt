@@ -54,6 +54,7 @@ fn scan_piece(copier: &mut Copier, weak: &mut PinSet, index: u32) -> u32
 }
 
 /// Scans the objects that begin below so many words of a page, one after another.
+#[inline(never)]
 fn scan_pieces(copier: &mut Copier, weak: &mut PinSet, page: u32, words: u32)
     ghost a: { NamedHeap }
     requires can { CanScanPage a (state copier.old) page words }
@@ -72,6 +73,7 @@ fn scan_pieces(copier: &mut Copier, weak: &mut PinSet, page: u32, words: u32)
 
 /// Scans the objects that begin below so many words of a page, if they need it. `idle` says that no
 /// page is of the generation that is collected.
+#[inline(always)]
 fn scan_page(copier: &mut Copier, weak: &mut PinSet, page: u32, words: u32, idle: bool)
     ghost a: { NamedHeap }
     requires can { CanScanPage a (state copier.old) page words }
@@ -89,10 +91,12 @@ fn scan_page(copier: &mut Copier, weak: &mut PinSet, page: u32, words: u32, idle
 }
 
 /// Below how many words of a page older roots begin, in a pass over a generation.
+#[inline(always)]
 fn root_words(entry: Entry, page: u32, collected: u8) -> u32
     ensures { result ≡ words_with_roots entry page collected }
 {
     match entry {
+        Entry::Free => 0,
         Entry::Used {
             ty: PageType::Cons | PageType::Boxed,
             generation,
@@ -101,7 +105,7 @@ fn root_words(entry: Entry, page: u32, collected: u8) -> u32
             ..
         } if generation != collected && generation != SCRATCH_GENERATION && run_first == page =>
             fill,
-        Entry::Used { .. } | Entry::Free => 0,
+        Entry::Used { .. } => 0,
     }
 }
 

@@ -1,6 +1,6 @@
 //! Long lists that begin as one element repeated.
 
-ghost use Rattle.std.specs.Prelude.{◌≡◌, ◌+◌, ◌-◌, ◌<◌, ◌≤◌, ◌++◌, ◌⊎◌, length, replicate, slice_index_or, slice_set, vec_capacity, IfOk};
+ghost use Rattle.std.specs.Prelude.{◌≡◌, ◌+◌, ◌-◌, ◌<◌, ◌≤◌, ◌++◌, ◌⊎◌, length, replicate, slice_index_or, slice_set, take, drop, vec_capacity, IfOk, IfSome};
 ghost use Rattle.word_space.specs.Space.{copied, written};
 
 use heap_terms::Memory;
@@ -91,6 +91,44 @@ impl<T: Copy> Prefilled<T> {
             self.kept[i]
         } else {
             self.blank
+        }
+    }
+
+    /// The two elements at `i` and behind it.
+    #[inline(always)]
+    pub fn pair(&self, i: usize) -> (T, T)
+        requires { i + 1 < length self.now }
+        ensures first { result.0 ≡ slice_index_or self.now i result.0 }
+        ensures second { result.1 ≡ slice_index_or self.now (i + 1) result.1 }
+    {
+        prove!(i < self.len());
+        if i + 1 < self.kept.len() {
+            (self.kept[i], self.kept[i + 1])
+        } else {
+            (self.at(i), self.at(i + 1))
+        }
+    }
+
+    /// So many elements from `from` on, where all of them are filled in.
+    pub fn window(&self, from: usize, count: usize) -> Option<&[T]>
+        ensures { IfSome result (λ part. part.now ≡ take count (drop from self.now)) }
+    {
+        self.kept.get(from..from.saturating_add(count))
+    }
+
+    /// Writes the elements at `i` and behind it. It takes no memory.
+    #[inline(always)]
+    pub fn set_pair(&mut self, i: usize, first: T, second: T)
+        requires { i + 1 < length self.old }
+        ensures { self.new ≡ slice_set (slice_set self.old i first) (i + 1) second }
+    {
+        prove!(i < self.len());
+        if i + 1 < self.kept.len() {
+            self.kept[i] = first;
+            self.kept[i + 1] = second;
+        } else {
+            self.set_beyond(i, first);
+            self.set_beyond(i + 1, second);
         }
     }
 

@@ -1,23 +1,18 @@
--- One word more is read.
-use Rattle.std.proofs.Common.{◌≡◌, ℕ, ◌+◌, ◌-◌, inl, inr, ◌∙◌, ap, subst, arith}
-use Rattle.std.proofs.lemmas.Bool.{cases_lt}
+-- The words are those of a part of the space.
+use Rattle.std.proofs.Common.{◌≡◌, ℕ, ◌+◌, ◌∙◌, ap, subst, take, drop, length, arith}
+use Rattle.std.proofs.lemmas.List.{get_or-take, get_or-drop, length-take-le, length-drop}
 use Rattle.std.specs.Prelude.{slice_index}
 use Rattle.scavenge.specs.Clear.{IsElsewhere}
 use Rattle.scavenge.proofs.clear.is_clear.Goals as goal
 
-pub loop-index-preserved : goal.loop-index-preserved
-loop-index-preserved c =
-    let from = c.args.from in
-    let index = c.loop-index.index in
-    let pages = c.args.pages.now in
-    let g = c.args.generation in
-    let low = c.loop-index.invariant.from in
-    record {
-      from = omega (arith, low);
-      clear = λ k below. elim (cases_lt k (index - from)) [
-        | inl before ↦ c.loop-index.invariant.clear k before
-        | inr last ↦ (let at : index ≡ from + k = omega (arith, low, below, last) in
-            let here = c.refers_to.ensures c.if-refers_to.false in
-            subst (λ (w : ℕ). IsElsewhere pages g w) (c.read.ensures ∙ ap (λ (i : ℕ). slice_index c.args.space.now i) at) here)
-      ];
-    }
+pub returns-in-Some : goal.returns-in-Some
+returns-in-Some c = λ clear k below.
+    (let from = c.args.from in
+    let count = c.args.count in
+    let space = c.args.space.now in
+    let part = c.in-Some.words.now in
+    let long : length part ≡ count = ap length c.in-Some.ensures ∙ length-take-le count (drop from space) (let all = c.requires in omega (arith, length-drop from space, all)) in
+    let plus : 0 + k ≡ k = omega arith in
+    let value : slice_index part (0 + k) ≡ slice_index space (from + k) =
+    ap (λ ws. slice_index ws (0 + k)) c.in-Some.ensures ∙ ap (λ (i : ℕ). slice_index (take count (drop from space)) i) plus ∙ get_or-take count (drop from space) k 0 below ∙ get_or-drop from space k 0 in
+    subst (λ (w : ℕ). IsElsewhere c.args.pages.now c.args.generation w) value (c.are_clear.ensures clear k (omega (arith, long, below))))
