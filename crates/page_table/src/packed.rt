@@ -11,14 +11,14 @@ use heap_terms::{Entry, PageType};
 /// What a page holds.
 #[derive(Clone, Copy)]
 pub enum Holds {
-    /// Nothing: the page is free.
-    Nothing,
     /// Conses.
     Conses,
     /// Objects with values behind a header.
     Boxed,
     /// Raw words.
     Unboxed,
+    /// Nothing: the page is free.
+    Nothing,
 }
 
 /// The entry of a page. Where it holds nothing its other numbers mean nothing.

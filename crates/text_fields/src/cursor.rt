@@ -2,11 +2,12 @@
 //! the place behind it. So the place of a line's end stays in a register while the line is made.
 
 ghost use Rattle.std.specs.Prelude.{◌≡◌, ◌+◌, ◌-◌, ◌*◌, ◌/◌, ◌%◌, ◌<◌, ◌≤◌, [], ◌∷◌, ◌++◌, length, take, slice_index_or, decimal};
-ghost use Rattle.heap_terms.specs.Text.{field, name_text, index_text};
+ghost use Rattle.heap_terms.specs.Text.{field, name_text, index_text, cell_text, cell_field};
 ghost use Rattle.text_fields.specs.DigitCounts.{digit_count};
 ghost use Rattle.text_fields.specs.declared.threes.TheConstants.{THREES};
 
 use crate::threes::THREES;
+use heap_terms::Cell;
 use itoa::Buffer;
 
 /// Writes a few bytes.
@@ -150,4 +151,67 @@ pub(crate) fn put_object<const N: usize>(
     let named = put_number(bytes, marked, name as u64);
     let spaced = put(bytes, named, b" @");
     put_number(bytes, spaced, index as u64)
+}
+
+/// Writes an index as a field, and ends the line.
+#[inline(always)]
+pub(crate) fn put_index_end(bytes: &mut [u8], at: usize, index: u32) -> usize
+    requires { at + 23 ≤ length bytes.old }
+    ensures text { take result bytes.new ≡ take at bytes.old ++ (field (index_text index) ++ 10 ∷ []) }
+    ensures end { result ≤ at + 23 }
+    ensures len { length bytes.new ≡ length bytes.old }
+{
+    let spaced = put(bytes, at, b" @");
+    let end = put_number(bytes, spaced, index as u64);
+    put(bytes, end, b"\n")
+}
+
+/// The letter and the number of a cell.
+#[inline(always)]
+pub(crate) fn parts_of(c: Cell) -> (u8, u8)
+    ensures { cell_text c ≡ result.0 ∷ decimal result.1 }
+{
+    match c {
+        Cell::Stack(i) => (b's', i),
+        Cell::Exact(i) => (b'b', i),
+        Cell::Shared(i) => (b'g', i),
+    }
+}
+
+/// Writes a cell as a field.
+#[inline(always)]
+#[tactic(auto, using(std::proofs::lemmas::Fmt::decimal_digit, crate::proofs::Decimals::decimal_two))]
+pub(crate) fn put_cell(bytes: &mut [u8], at: usize, c: Cell) -> usize
+    requires { at + 22 ≤ length bytes.old }
+    ensures text { take result bytes.new ≡ take at bytes.old ++ cell_field c }
+    ensures end { result ≤ at + 5 }
+    ensures len { length bytes.new ≡ length bytes.old }
+{
+    let (letter, i) = parts_of(c);
+    if i < 10 {
+        return put(bytes, at, &[b' ', letter, b'0' + i]);
+    }
+    let lettered = put(bytes, at, &[b' ', letter]);
+    put_short(bytes, lettered, i as u32)
+}
+
+/// Writes a word and, each as a field, three cells.
+#[inline(always)]
+pub(crate) fn put_three_cells<const N: usize>(
+    bytes: &mut [u8],
+    at: usize,
+    word: &[u8; N],
+    a: Cell,
+    b: Cell,
+    c: Cell,
+) -> usize
+    requires { at + N + 32 ≤ length bytes.old }
+    ensures text { take result bytes.new ≡ take at bytes.old ++ (word.now ++ (cell_field a ++ cell_field b ++ cell_field c)) }
+    ensures end { result ≤ at + N + 15 }
+    ensures len { length bytes.new ≡ length bytes.old }
+{
+    let worded = put(bytes, at, word);
+    let first = put_cell(bytes, worded, a);
+    let second = put_cell(bytes, first, b);
+    put_cell(bytes, second, c)
 }

@@ -10,7 +10,7 @@ use super::room::{BREAK_LINE, CULL_LINE, MOVE_LINE, PIN_LINE};
 use heap_terms::{Cull, PassRecord, PinAt, Placing};
 use std::alloc::AllocError;
 use text_fields::{
-    NUMBER_FIELD, Text, push, push_index_field, push_name_field, push_number_field, push_object,
+    NUMBER_FIELD, Text, push, push_index_end, push_name_field, push_number_field, push_object,
     push_value,
 };
 
@@ -93,8 +93,7 @@ fn push_move(out: &mut Text, m: &Placing)
     match m.new {
         Some(new) => {
             push_object(out, b"move", m.name, m.old);
-            push_index_field(out, new);
-            push(out, b"\n");
+            push_index_end(out, new);
         }
         None => {
             push_object(out, b"stay", m.name, m.old);
