@@ -24,3 +24,4 @@ pub mod Kept
 pub mod Counted
 pub mod AllPasses
 pub mod FinalizerPlan
+pub mod Recalling
