@@ -72,7 +72,8 @@ abbrev pub built_words : List (List ℕ)
 built_words = codes "lispheap" ∷ codes "heap" ∷ codes "auto" ∷ codes "thread" ∷ codes "fix" ∷ codes "nil" ∷ codes "move" ∷ codes "cons"
     ∷ codes "vector" ∷ codes "instance" ∷ codes "closure" ∷ codes "words"
     ∷ codes "get" ∷ codes "put" ∷ codes "rawget" ∷ codes "rawput" ∷ codes "eq" ∷ codes "show" ∷ codes "addr"
-    ∷ codes "raw" ∷ codes "add" ∷ codes "pin" ∷ codes "unpin" ∷ codes "gc" ∷ codes "nogc" ∷ codes "gcok" ∷ codes "page" ∷ codes "stat" ∷ codes "schedule" ∷ codes "end" ∷ []
+    ∷ codes "raw" ∷ codes "add" ∷ codes "pin" ∷ codes "unpin" ∷ codes "gc" ∷ codes "nogc" ∷ codes "gcok" ∷ codes "page" ∷ codes "stat"
+    ∷ codes "finalize" ∷ codes "cancel" ∷ codes "runfin" ∷ codes "schedule" ∷ codes "end" ∷ []
 
 -- whether a word is among them
 abbrev pub is_built : List ℕ → Bool

@@ -74,7 +74,7 @@ module _ (s : Inside) (i : IsSound s) (w : View) (view : view_of s ≡ w) (h : R
         program = s.program;
         formed = closed_wf s.program (heap s) wf;
         regions = closed_none (heap s);
-        strong = strong_same (heap s) (closed (heap s)) refl refl (replay-strong s.program s.history.items i.valid i.lawful);
+        strong = strong_same (heap s) (closed (heap s)) refl (replay-strong s.program s.history.items i.valid i.lawful);
         numbers = record { words = numbers.words; cum = numbers.cum; num = numbers.num; counted = numbers.counted };
         few = commits_few s.program s.history.items i.valid i.lawful;
         objects_long = refl;

@@ -124,7 +124,7 @@ module _ (h : Rooted) (last n : ℕ) (pass : Pass) (words : List ℕ) (pages : L
           program = stand.program;
           formed = formed.0;
           regions = formed.1;
-          strong = strong_same b (after_pass_of h.heap last n r) refl refl (strong_pass h.heap r stand.strong);
+          strong = strong_same b (after_pass_of h.heap last n r) refl (strong_pass h.heap r stand.strong);
           numbers = subst (HasNumbers (after_pass_of h.heap last n r)) (omega arith) numbers;
           few = omega (arith, objects, stand.few);
           objects_long = objects;

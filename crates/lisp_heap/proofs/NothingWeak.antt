@@ -73,6 +73,3 @@ no_breaks a live strong = filter-none (λ name. breaks_in live name (object_at a
     go : (name : ℕ) (q : Option Object) → object_at a.objects name ≡ q → breaks_in live name (object_at a.objects name) ≡ false
     go name None e = ap (breaks_in live name) e
     go name (Some o) e = ap (breaks_in live name) e ∙ and-none (live name) (breaks live o.contents) (strong-breaks live o.contents (strong.objects name o e))
-
-pub no_queued : (a : NamedHeap) (live : ℕ → Bool) → IsStrongHeap a → queued_of a live ≡ []
-no_queued a live strong = ap (λ (entries : List (ℕ × ℕ)). map (λ entry. entry.1) (filter (λ entry. not (live entry.0)) entries)) strong.finalizers

@@ -1,9 +1,9 @@
--- The heap that a lawful history of a valid program leaves has no table, no weak pointer and no finalizer, until commands
--- that make some are built.
+-- The heap that a lawful history of a valid program leaves has no table and no weak pointer, until commands that make
+-- some are built.
 use Rattle.std.proofs.Common.{◌≡◌, ℕ, zero, suc, ◌+◌, ◌-◌, List, [], ◌∷◌, ◌++◌, length, take, refl, sym, ◌∙◌, subst, ap, get_or, set, Option, Some, None, Bool, true, false, inl, inr}
 use Rattle.std.proofs.lemmas.Bool.{cases_Bool}
 use Rattle.std.proofs.lemmas.Option.{same_Some}
-use Rattle.std.specs.Prelude.{if◌then◌else◌, ◌==◌, nat_lt, filter}
+use Rattle.std.specs.Prelude.{if◌then◌else◌, ◌==◌, nat_lt, filter, count_by, not}
 use Rattle.heap_terms.specs.declared.answers.Answer.{Answer}
 use Rattle.heap_terms.specs.declared.answers.Answer.TheVariants as answers
 use Rattle.heap_terms.specs.declared.answers.Refusal.TheVariants.{OutOfRange, PinsFull, Nothing}
@@ -33,10 +33,10 @@ use Rattle.heap_terms.specs.Outcomes.RawCommands.{taking}
 use Rattle.heap_terms.specs.RawCells.{raw_value}
 use Rattle.heap_terms.specs.Spelling.{word_of}
 use Rattle.heap_terms.specs.Passes.{after_pass, object_after, remains}
-use Rattle.heap_terms.specs.Referents.{changed_at, fields_at, raws_at, refilled, with_field, with_field_at, with_raws}
+use Rattle.heap_terms.specs.Referents.{changed_at, fields_at, name_in, raws_at, refilled, with_field, with_field_at, with_raws}
 use Rattle.heap_terms.specs.Regions.{committed, counting, triggers, opened, wish_of, with_destination, destination_of, initial_contents, place_for, run_used, pages_after}
 use Rattle.heap_terms.specs.Layout.{size_of}
-use Rattle.heap_terms.specs.Survival.{surviving, registered}
+use Rattle.heap_terms.specs.Survival.{surviving}
 use Rattle.heap_terms.specs.Valid.{IsValid}
 use Rattle.heap_laws.proofs.AtPlaces.{set_cases, push_cases}
 use Rattle.heap_laws.proofs.NextEvents.{next_parts, next_with_command, opens_for, allocating_refused}
@@ -48,22 +48,16 @@ use Rattle.lisp_heap.proofs.Unchanged.{with_cell-objects}
 
 -- ---- heaps with the same objects
 
-pub strong_same : (a b : NamedHeap) → b.objects ≡ a.objects → b.finalizers ≡ a.finalizers → IsStrongHeap a → IsStrongHeap b
-strong_same a b objects finalizers h = record {
+pub strong_same : (a b : NamedHeap) → b.objects ≡ a.objects → IsStrongHeap a → IsStrongHeap b
+strong_same a b objects h = record {
   objects = λ name o e. h.objects name o (ap (λ (os : List (Option Object)). object_at os name) (sym objects) ∙ e);
-  finalizers = finalizers ∙ h.finalizers;
 }
 
-with_cell-finalizers : (a : NamedHeap) (t : ℕ) (cell : Cell) (v : Value) → (with_cell a t cell v).finalizers ≡ a.finalizers
-with_cell-finalizers a t (Stack i) v = refl
-with_cell-finalizers a t (Exact i) v = refl
-with_cell-finalizers a t (Shared i) v = refl
-
 strong_cell : (a : NamedHeap) (t : ℕ) (cell : Cell) (v : Value) → IsStrongHeap a → IsStrongHeap (with_cell a t cell v)
-strong_cell a t cell v h = strong_same a (with_cell a t cell v) (with_cell-objects a t cell v) (with_cell-finalizers a t cell v) h
+strong_cell a t cell v h = strong_same a (with_cell a t cell v) (with_cell-objects a t cell v) h
 
 strong_thread : (a : NamedHeap) (t : ℕ) (th : Thread) → IsStrongHeap a → IsStrongHeap (with_thread a t th)
-strong_thread a t th h = strong_same a (with_thread a t th) refl refl h
+strong_thread a t th h = strong_same a (with_thread a t th) refl h
 
 -- ---- objects that hold something else
 
@@ -95,15 +89,14 @@ refilled_strong (Some x) change kept strong o e =
 
 strong_changed : (a : NamedHeap) (v : Value) (change : Contents → Contents) → ((k : Contents) → IsStrong k → IsStrong (change k)) → IsStrongHeap a →
     IsStrongHeap (record a { objects = changed_at a.objects v change })
-strong_changed a (values.Fix n) change kept h = strong_same a (record a { objects = a.objects }) refl refl h
-strong_changed a values.Nil change kept h = strong_same a (record a { objects = a.objects }) refl refl h
-strong_changed a values.Unbound change kept h = strong_same a (record a { objects = a.objects }) refl refl h
+strong_changed a (values.Fix n) change kept h = strong_same a (record a { objects = a.objects }) refl h
+strong_changed a values.Nil change kept h = strong_same a (record a { objects = a.objects }) refl h
+strong_changed a values.Unbound change kept h = strong_same a (record a { objects = a.objects }) refl h
 strong_changed a (values.Ref name) change kept h = record {
   objects = λ x o e. elim (set_cases a.objects name x (refilled (object_at a.objects name) change) None) [
     | inl same ↦ h.objects x o (sym same ∙ e)
     | inr here ↦ refilled_strong (object_at a.objects name) change kept (λ q at. h.objects name q at) o (sym here.2 ∙ e)
   ];
-  finalizers = h.finalizers;
 }
 
 -- ---- commands that allocate nothing
@@ -162,6 +155,15 @@ module _ (a : NamedHeap) (t : ℕ) (h : IsStrongHeap a) where
   strong_outcome (commands.ShowPage page) simple =
       by_test (nat_lt page (length a.pages)) (answering (answers.Page (page_view a page)) a) (refused OutOfRange a) h h
   strong_outcome (commands.Stat g) simple = h
+  strong_outcome (commands.Finalize c id) simple =
+      needing_strong (name_in (cell_value a t c)) a (λ name. done (record a { finalizers = a.finalizers ++ (name, id) ∷ [] })) h
+      (λ name. strong_same a (record a { finalizers = a.finalizers ++ (name, id) ∷ [] }) refl h)
+  strong_outcome (commands.Cancel c) simple =
+      needing_strong (name_in (cell_value a t c)) a
+      (λ name. answering (answers.Count (count_by (λ entry. entry.0 == name) a.finalizers)) (record a { finalizers = filter (λ entry. not (entry.0 == name)) a.finalizers })) h
+      (λ name. strong_same a (record a { finalizers = filter (λ entry. not (entry.0 == name)) a.finalizers }) refl h)
+  strong_outcome commands.RunFinalizers simple =
+      by_test (length a.queue == 0) (answering answers.Absent a) (answering (answers.Ran a.queue) (record a { queue = [] })) h (strong_same a (record a { queue = [] }) refl h)
   strong_outcome _ simple = absurd simple
 
 -- ---- commits
@@ -178,8 +180,8 @@ destination_same b t (Some d) v h = strong_cell b t d v h
 -- the words of a commit are counted
 strong_counting : (p : Program) (b : NamedHeap) (t size : ℕ) → IsStrongHeap b → IsStrongHeap (counting p b t size)
 strong_counting p b t size h = elim (cases_Bool (triggers p b size)) [
-  | inl reached ↦ rw reached (record { objects = h.objects; finalizers = h.finalizers })
-  | inr below ↦ rw below (record { objects = h.objects; finalizers = h.finalizers })
+  | inl reached ↦ rw reached (record { objects = h.objects })
+  | inr below ↦ rw below (record { objects = h.objects })
 ]
 
 strong_committed : (p : Program) (a : NamedHeap) (t : ℕ) (c : Command) (kind : Kind) (n : ℕ) → IsValid p → IsBuilt c → IsStrongHeap a →
@@ -194,8 +196,7 @@ strong_committed p a t c kind n valid built h =
         | inl old ↦ h.objects name o (sym old.1 ∙ e)
         | inr new ↦ subst (λ (q : Object). IsStrong q.contents) (same_Some object o (sym new.1 ∙ e)) (initial_strong a t c built)
       ];
-      finalizers = h.finalizers;
-    } in
+        } in
     strong_counting p (with_destination placed t (destination_of c) (values.Ref (length a.objects))) t size
     (destination_same placed t (destination_of c) (values.Ref (length a.objects)) with_object)
 
@@ -218,25 +219,20 @@ object_strong a r name (Some x) strong o e = elim (cases_Bool (remains a r name)
   | inr dead ↦ (let none : None ≡ Some o = rw dead at e in cc)
 ]
 
-pass_finalizers : (a : NamedHeap) (r : PassRecord) → (after_pass a r).finalizers ≡ registered a (remains a r)
-unfolding after_pass
-pass_finalizers a r = refl
-
 pub strong_pass : (a : NamedHeap) (r : PassRecord) → IsStrongHeap a → IsStrongHeap (after_pass a r)
 strong_pass a r h = record {
   objects = λ name o e. object_strong a r name (object_at a.objects name) (λ x at. h.objects name x at) o (sym (object_at-after a r name) ∙ e);
-  finalizers = pass_finalizers a r ∙ ap (λ (fs : List (ℕ × ℕ)). filter (λ entry. remains a r entry.0) fs) h.finalizers;
 }
 
 strong_passes : (a : NamedHeap) (last g : ℕ) (records : List PassRecord) → IsStrongHeap a → IsStrongHeap (after_passes a last g records)
 strong_passes a last g [] h = h
 strong_passes a last g (r ∷ rest) h =
-    strong_passes (after_pass_of a last g r) last (g + 1) rest (strong_same (after_pass a r) (after_pass_of a last g r) refl refl (strong_pass a r h))
+    strong_passes (after_pass_of a last g r) last (g + 1) rest (strong_same (after_pass a r) (after_pass_of a last g r) refl (strong_pass a r h))
 
 strong_collected : (a : NamedHeap) (t last : ℕ) (records : List PassRecord) → IsStrongHeap a → IsStrongHeap (collected a t last records)
 unfolding collected
 strong_collected a t last records h =
-    strong_thread (after_passes (closed a) last 0 records) t _ (strong_passes (closed a) last 0 records (strong_same a (closed a) refl refl h))
+    strong_thread (after_passes (closed a) last 0 records) t _ (strong_passes (closed a) last 0 records (strong_same a (closed a) refl h))
 
 -- ---- events
 
@@ -258,7 +254,7 @@ strong_command p a t c answer valid h nexts.Done e at answered = h
 
 strong_opened : (a : NamedHeap) (t : ℕ) (ty : _) (first k : ℕ) → IsStrongHeap a → IsStrongHeap (opened a t ty first k)
 unfolding opened
-strong_opened a t ty first k h = strong_same a (opened a t ty first k) refl refl h
+strong_opened a t ty first k h = strong_same a (opened a t ty first k) refl h
 
 strong_event : (p : Program) (a : NamedHeap) (e : Event) → IsValid p → IsNext p a e → IsStrongHeap a → IsStrongHeap (after p a e)
 unfolding IsNext after
@@ -269,7 +265,7 @@ strong_event p a (Ended t) valid next_is h = strong_thread a t (ended_thread (th
 
 strong_start : (p : Program) → IsStrongHeap (start p)
 unfolding start
-strong_start p = record { objects = λ name o e. cc; finalizers = refl }
+strong_start p = record { objects = λ name o e. cc }
 
 strong_from : (p : Program) (a : NamedHeap) (es : List Event) → IsValid p → LawfulFrom p a es → IsStrongHeap a → IsStrongHeap (replay_from p a es)
 strong_from p a [] valid lawful h = h

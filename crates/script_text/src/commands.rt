@@ -18,8 +18,14 @@ impl Name {
         ensures { result ≡ field_count self }
     {
         match self {
-            Name::Unpin | Name::Nogc | Name::Gcok => 0,
-            Name::Nil | Name::Show | Name::Pin | Name::Gc | Name::Page | Name::Stat => 1,
+            Name::Unpin | Name::Nogc | Name::Gcok | Name::Runfin => 0,
+            Name::Nil
+            | Name::Show
+            | Name::Pin
+            | Name::Gc
+            | Name::Page
+            | Name::Stat
+            | Name::Cancel => 1,
             Name::Fix
             | Name::Move
             | Name::Vector
@@ -28,7 +34,8 @@ impl Name {
             | Name::Eq
             | Name::Addr
             | Name::Raw
-            | Name::Add => 2,
+            | Name::Add
+            | Name::Finalize => 2,
             Name::Cons | Name::Words | Name::Get | Name::Put | Name::RawGet | Name::RawPut => 3,
         }
     }
@@ -180,6 +187,16 @@ fn front(name: Name, left: &mut Cursor) -> Result<Command, Why>
         }
         Name::Nogc => Ok(Command::Inhibit),
         Name::Gcok => Ok(Command::Allow),
+        Name::Finalize => {
+            let c = left.cell()?;
+            let id = left.wide()?;
+            Ok(Command::Finalize { c, id })
+        }
+        Name::Cancel => {
+            let c = left.cell()?;
+            Ok(Command::Cancel { c })
+        }
+        Name::Runfin => Ok(Command::RunFinalizers),
     }
 }
 
@@ -391,7 +408,10 @@ fn plain_front(name: Name, rest: &[u8]) -> Option<(Command, &[u8])>
         | Name::Page
         | Name::Stat
         | Name::Nogc
-        | Name::Gcok => None,
+        | Name::Gcok
+        | Name::Finalize
+        | Name::Cancel
+        | Name::Runfin => None,
     }
 }
 
