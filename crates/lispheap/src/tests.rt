@@ -3,7 +3,7 @@
 ghost use Rattle.std.specs.Prelude.{◌≤◌};
 
 mod collections;
-mod finalizers;
+mod finalizing;
 mod generations;
 mod threads;
 
