@@ -54,6 +54,8 @@ pub mod KeptThere
 pub mod CountedThere
 pub mod NextPass
 pub mod PassesSoFar
+mod ReopenedRegions
+mod ParcelLists
 pub mod TableSlots
 pub mod KeyedPairs
 pub mod ObjectChanges
