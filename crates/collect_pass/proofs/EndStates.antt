@@ -5,15 +5,11 @@ use Rattle.std.proofs.lemmas.List.{get_or_past}
 use Rattle.std.proofs.lemmas.List.Elements.{All-head, All-tail}
 use Rattle.std.specs.List.{range_with_len}
 use Rattle.std.specs.Prelude.{All, find, unwrap_or}
-use Rattle.heap_terms.specs.declared.cells.Value.{Value}
-use Rattle.heap_terms.specs.declared.cells.Value.TheVariants as values
 use Rattle.heap_terms.specs.declared.events.Placing.{Placing}
 use Rattle.heap_terms.specs.declared.pages.Entry.{Entry}
 use Rattle.heap_terms.specs.Heap.{NamedHeap, object_at}
-use Rattle.heap_terms.specs.Live.{is_live}
 use Rattle.heap_terms.specs.Objects.{Object}
 use Rattle.heap_terms.specs.Placement.{Placement, placement}
-use Rattle.heap_terms.specs.Slots.{Slot, Raw, Val, Side, Kept}
 use Rattle.heap_terms.specs.Sound.{IsSound}
 use Rattle.pass_laws.proofs.Spreading.{IsMoveOf}
 use Rattle.copy_space.specs.declared.marks.Mark.{Mark}
@@ -21,12 +17,14 @@ use Rattle.copy_space.specs.declared.notes.Move.{Move}
 use Rattle.copy_space.specs.declared.notes.Pass.{Pass}
 use Rattle.copy_space.specs.declared.notes.PassNotes.{PassNotes}
 use Rattle.copy_space.specs.declared.placing.PagesInUse.{PagesInUse}
-use Rattle.copy_space.specs.Midway.{IsPlacedSoFar, StandsMidway}
+use Rattle.copy_space.specs.Midway.{IsPlacedSoFar}
 use Rattle.copy_space.specs.Moved.{noted}
-use Rattle.copy_space.specs.Settled.{is_settled, settles, word_now, IsNewWord}
+use Rattle.copy_space.specs.Settled.{is_settled}
 use Rattle.copy_space.specs.State.{CopyState}
 use Rattle.copy_space.proofs.Names.{same_name}
 use Rattle.copy_space.proofs.Referents.{ms, its}
+use Rattle.finalizers.specs.Lists.{Lists}
+use Rattle.finalizers.specs.Sweeping.{IsSwept}
 use Rattle.trace_laws.specs.Rooted.{Rooted}
 use Rattle.trace_laws.specs.Traced.{IsTraced}
 use Rattle.trace_laws.proofs.Moves.{moves-named}
@@ -126,3 +124,12 @@ told-end a z u words pages marks pins pass moves old ended new told same marks_a
     let live : is_settled a u ≡ is_settled a z = subst (λ (x : CopyState). is_settled a x ≡ is_settled a z) (sym same) refl in
     subst (λ (n : PassNotes). AreTraceNotes a (is_settled a (end_state a words pages marks pins pass moves)) old n) (sym notes_are)
     (subst (λ (set : ℕ → Bool). AreTraceNotes a set old ended) (sym (settled-end a u words pages marks pins pass moves marks_are pass_is ∙ live)) told)
+
+-- and so is what is swept, by these and the moves
+pub swept-end : (a : NamedHeap) (s : CopyState) (words : List ℕ) (pages : List Entry) (marks : List Mark) (pins : List ℕ) (pass : Pass) (moves : List Move) (list : List (ℕ × ℕ)) (old new : Lists) →
+    IsSwept a s list old new → marks ≡ s.marks → pass ≡ s.pass → moves ≡ s.moves → IsSwept a (end_state a words pages marks pins pass moves) list old new
+unfolding end_state
+swept-end a s words pages marks pins pass moves list old new h marks_are pass_is moves_are =
+    subst (λ (m : List Mark). IsSwept a (end_state a words pages m pins pass moves) list old new) (sym marks_are)
+    (subst (λ (p : Pass). IsSwept a (end_state a words pages s.marks pins p moves) list old new) (sym pass_is)
+    (subst (λ (ms : List Move). IsSwept a (end_state a words pages s.marks pins s.pass ms) list old new) (sym moves_are) (record { registered = h.registered; queue = h.queue })))

@@ -1,21 +1,19 @@
 -- The end of tracing: after tables are culled and weak pointers broken the words of each settled object stand for what
 -- survives of it, and the notes tell of all weak pointers and tables that are settled.
-use Rattle.std.proofs.Common.{◌≡◌, ◌≢◌, ℕ, ◌+◌, ◌*◌, ◌<◌, ◌≤◌, List, [], ◌++◌, length, map, get_or, Option, Some, None, Bool, true, false, nat_eq, inl, inr, refl, sym, ◌∙◌, ap, subst, arith, vec_len, vec_capacity}
+use Rattle.std.proofs.Common.{◌≡◌, ℕ, ◌+◌, ◌*◌, ◌≤◌, List, [], ◌++◌, length, map, get_or, Option, Some, None, Bool, true, false, nat_eq, inl, inr, refl, sym, ◌∙◌, ap, subst, arith, vec_len, vec_capacity}
 use Rattle.std.proofs.lemmas.Bool.{cases_Bool, eq-eqb, false≢true}
 use Rattle.std.proofs.lemmas.List.{get_or_default}
 use Rattle.std.proofs.lemmas.List.Folds.{list_any_at}
-use Rattle.std.specs.List.{list_any}
-use Rattle.std.specs.Prelude.{AllPairs, IfSome, slice_index}
+use Rattle.std.specs.Prelude.{IfSome, slice_index}
 use Rattle.heap_terms.specs.declared.kinds.Kind.TheVariants as kinds
 use Rattle.heap_terms.specs.Heap.{NamedHeap, object_at, zero_value}
 use Rattle.heap_terms.specs.Live.{is_live}
-use Rattle.heap_terms.specs.Objects.{Object, Contents, kind_of}
+use Rattle.heap_terms.specs.Objects.{Object, Contents}
 use Rattle.heap_terms.specs.Slots.{Slot, Raw, Val, Side, Kept, slot_at}
 use Rattle.heap_terms.specs.Stands.{KeptStand, SlotsStand, StandsFor}
-use Rattle.heap_terms.specs.Survival.{surviving}
 use Rattle.copy_space.specs.CullNotes.{broken_of, culled_of}
 use Rattle.copy_space.specs.Midway.{Midway}
-use Rattle.copy_space.specs.Notes.{SameButMoves}
+use Rattle.copy_space.specs.Notes.{SameButMoves, SameButQueued}
 use Rattle.copy_space.specs.Moved.{new_of, objects_now}
 use Rattle.copy_space.specs.Settled.{is_settled, word_now}
 use Rattle.copy_space.specs.State.{CopyState}
@@ -23,6 +21,7 @@ use Rattle.copy_space.specs.Surviving.{StandsAfter}
 use Rattle.copy_space.specs.WeakNames.{AreNamed, AreWeakNames, is_weak, weak_count}
 use Rattle.copy_space.specs.declared.notes.PassNotes.{PassNotes}
 use Rattle.copy_space.proofs.Shapes.{slot-below}
+use Rattle.finalizers.specs.Sweeping.{dead_ids}
 use Rattle.pin_set.specs.Starts.{Starts}
 use Rattle.scavenge.specs.Noting.{CanNote}
 use Rattle.scavenge.proofs.NotedStarts.{NamedStarts, kind-by_weak, named-starts, names-once, starts-few, weak-by_kind}
@@ -162,11 +161,13 @@ module _ (h : Rooted) (w z t u : CopyState) (exact : List ℕ) (end : IsEndOf h 
 
 -- and told
 module _ (a : NamedHeap) (z t u : CopyState) (weak : Starts) (l : IsListed a z weak) (left : AreRewritten a z t kinds.Table weak.listed (length weak.listed))
-    (start settled culled ended : PassNotes) (chain : SameButMoves start settled) (no_culls : start.culls.items ≡ []) (no_breaks : start.breaks.items ≡ [])
+    (start settled culled broken ended : PassNotes) (chain : SameButMoves start settled) (no_culls : start.culls.items ≡ []) (no_breaks : start.breaks.items ≡ [])
     (culls_noted : (names : List ℕ) → AreNamed a z weak.listed names → culled.culls.items ≡ settled.culls.items ++ culled_of a (is_settled a z) names)
     (culls_room : vec_capacity culled.culls ≡ vec_capacity settled.culls) (culls_rest : SameButCulled settled culled)
-    (breaks_noted : (names : List ℕ) → AreNamed a t weak.listed names → ended.breaks.items ≡ culled.breaks.items ++ broken_of a (is_settled a t) names)
-    (breaks_room : vec_capacity ended.breaks ≡ vec_capacity culled.breaks) (breaks_rest : SameButBroken culled ended) (moves_room : vec_capacity ended.moves ≡ vec_capacity start.moves) where
+    (breaks_noted : (names : List ℕ) → AreNamed a t weak.listed names → broken.breaks.items ≡ culled.breaks.items ++ broken_of a (is_settled a t) names)
+    (breaks_room : vec_capacity broken.breaks ≡ vec_capacity culled.breaks) (breaks_rest : SameButBroken culled broken) (moves_room : vec_capacity ended.moves ≡ vec_capacity start.moves)
+    (no_queued : start.queued.items ≡ []) (queued_noted : ended.queued.items ≡ broken.queued.items ++ dead_ids (is_settled a u) a.finalizers)
+    (queued_room : vec_capacity ended.queued ≡ vec_capacity broken.queued) (queued_rest : SameButQueued broken ended) (u_is : u ≡ record z { words = u.words }) where
   abbrev names : List ℕ
   names = (its_names a z weak l).names
 
@@ -177,24 +178,29 @@ module _ (a : NamedHeap) (z t u : CopyState) (weak : Starts) (l : IsListed a z w
   live_then : is_settled a t ≡ is_settled a z
   live_then = subst (λ (x : CopyState). is_settled a x ≡ is_settled a z) (sym left.same) refl
 
+  live_end : is_settled a u ≡ is_settled a z
+  live_end = subst (λ (x : CopyState). is_settled a x ≡ is_settled a z) (sym u_is) refl
+
   pub trace-notes : AreTraceNotes a (is_settled a z) start ended
   trace-notes = record {
     rest = record {
-      generation = breaks_rest.rest.generation ∙ culls_rest.rest.generation ∙ chain.rest.generation;
-      target = breaks_rest.rest.target ∙ culls_rest.rest.target ∙ chain.rest.target;
-      pins = breaks_rest.rest.pins ∙ culls_rest.rest.pins ∙ chain.rest.pins;
-      freed = breaks_rest.rest.freed ∙ culls_rest.rest.freed ∙ chain.rest.freed;
-      dead = breaks_rest.rest.dead ∙ culls_rest.rest.dead ∙ chain.rest.dead;
-      kept = breaks_rest.rest.kept ∙ culls_rest.rest.kept ∙ chain.rest.kept;
+      generation = queued_rest.rest.generation ∙ breaks_rest.rest.generation ∙ culls_rest.rest.generation ∙ chain.rest.generation;
+      target = queued_rest.rest.target ∙ breaks_rest.rest.target ∙ culls_rest.rest.target ∙ chain.rest.target;
+      pins = queued_rest.rest.pins ∙ breaks_rest.rest.pins ∙ culls_rest.rest.pins ∙ chain.rest.pins;
+      freed = queued_rest.rest.freed ∙ breaks_rest.rest.freed ∙ culls_rest.rest.freed ∙ chain.rest.freed;
+      dead = queued_rest.rest.dead ∙ breaks_rest.rest.dead ∙ culls_rest.rest.dead ∙ chain.rest.dead;
+      kept = queued_rest.rest.kept ∙ breaks_rest.rest.kept ∙ culls_rest.rest.kept ∙ chain.rest.kept;
     };
-    queued = breaks_rest.queued ∙ culls_rest.queued ∙ chain.queued;
+    queued = queued_noted ∙ ap (λ (ids : List ℕ). ids ++ dead_ids (is_settled a u) a.finalizers) (ap (λ v. v.items) (breaks_rest.queued ∙ culls_rest.queued ∙ chain.queued) ∙ no_queued)
+        ∙ ap (λ (live : ℕ → Bool). dead_ids live a.finalizers) live_end;
     weak_names = names;
     weak = weak-names a z weak l;
-    culls = ap (λ v. v.items) breaks_rest.culls ∙ culls_noted names (its_names a z weak l).named
+    culls = ap (λ v. v.items) queued_rest.culls ∙ ap (λ v. v.items) breaks_rest.culls ∙ culls_noted names (its_names a z weak l).named
         ∙ ap (λ (xs : List _). xs ++ culled_of a (is_settled a z) names) (ap (λ v. v.items) chain.culls ∙ no_culls);
-    breaks = breaks_noted names named_then ∙ ap (λ (xs : List ℕ). xs ++ broken_of a (is_settled a t) names) (ap (λ v. v.items) culls_rest.breaks ∙ ap (λ v. v.items) chain.breaks ∙ no_breaks)
+    breaks = ap (λ v. v.items) queued_rest.breaks ∙ breaks_noted names named_then ∙ ap (λ (xs : List ℕ). xs ++ broken_of a (is_settled a t) names) (ap (λ v. v.items) culls_rest.breaks ∙ ap (λ v. v.items) chain.breaks ∙ no_breaks)
         ∙ ap (λ (live : ℕ → Bool). broken_of a live names) live_then;
     moves_room = moves_room;
-    culls_room = ap vec_capacity breaks_rest.culls ∙ culls_room ∙ ap vec_capacity chain.culls;
-    breaks_room = breaks_room ∙ ap vec_capacity culls_rest.breaks ∙ ap vec_capacity chain.breaks;
+    culls_room = ap vec_capacity queued_rest.culls ∙ ap vec_capacity breaks_rest.culls ∙ culls_room ∙ ap vec_capacity chain.culls;
+    breaks_room = ap vec_capacity queued_rest.breaks ∙ breaks_room ∙ ap vec_capacity culls_rest.breaks ∙ ap vec_capacity chain.breaks;
+    queued_room = queued_room ∙ ap vec_capacity breaks_rest.queued ∙ ap vec_capacity culls_rest.queued ∙ ap vec_capacity chain.queued;
   }

@@ -1,5 +1,5 @@
 -- What survives of an object begins with the header of the object.
-use Rattle.std.proofs.Common.{◌≡◌, ◌≢◌, ℕ, ◌+◌, Option, Some, sym, ◌∙◌, ap, subst, List, arith}
+use Rattle.std.proofs.Common.{◌≡◌, ◌≢◌, ℕ, ◌+◌, Option, sym, ◌∙◌, ap, subst, List, arith}
 use Rattle.std.specs.Prelude.{IfSome, slice_index}
 use Rattle.heap_terms.specs.declared.kinds.Kind.{Kind}
 use Rattle.heap_terms.specs.declared.kinds.Kind.TheVariants as kinds

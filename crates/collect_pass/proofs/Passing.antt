@@ -1,6 +1,6 @@
 -- From the end of tracing to the end of the pass.
-use Rattle.std.proofs.Common.{◌≡◌, ℕ, ◌*◌, ◌≤◌, List, [], length, map, replicate, Bool, true, false, refl, sym, ◌∙◌, ap, subst, arith}
-use Rattle.std.specs.Prelude.{count_by, filter, not, vec_capacity}
+use Rattle.std.proofs.Common.{◌≡◌, ℕ, ◌*◌, ◌≤◌, List, [], length, replicate, Bool, true, false, refl, sym, ◌∙◌, ap, subst, arith}
+use Rattle.std.specs.Prelude.{count_by, vec_capacity}
 use Rattle.heap_terms.specs.declared.events.PassRecord.{PassRecord}
 use Rattle.heap_terms.specs.declared.limits.TheConstants.{OLDEST_COLLECTED}
 use Rattle.heap_terms.specs.declared.pages.Entry.{Entry}
@@ -19,8 +19,12 @@ use Rattle.copy_space.specs.WeakNames.{AreWeakNames}
 use Rattle.copy_space.proofs.Listed.{marks-told}
 use Rattle.copy_space.proofs.Referents.{its}
 use Rattle.page_sweep.specs.declared.sweeping.Traced.{Traced}
-use Rattle.page_sweep.specs.Swept.{IsSwept}
+use Rattle.page_sweep.specs.Swept.{IsSwept as ArePagesSwept}
 use Rattle.page_sweep.specs.Sweeping.{CanSweep}
+use Rattle.finalizers.specs.Lists.{Lists}
+use Rattle.finalizers.specs.Standing.{FinalizersStand}
+use Rattle.finalizers.specs.Sweeping.{IsSwept, dead_ids}
+use Rattle.finalizers.proofs.Standing.{swept-stand}
 use Rattle.pin_set.specs.Starts.{Starts}
 use Rattle.ambiguous_roots.specs.HitStarts.{AreHitStarts}
 use Rattle.trace_laws.specs.Ends.{IsEnd}
@@ -120,13 +124,13 @@ module _ (h : Rooted) (words : List ℕ) (pages : List Entry) (exact ambiguous :
       (marks-told h.heap (end_state h.heap words1 pages1 marks1 pins.listed pass notes1.moves.items) traced.places)
 
   module _ (moves2 : List Move) (moves_are : moves2 ≡ notes1.moves.items) (words2 : List ℕ) (pages2 : List Entry) (freed2 : List ℕ) (target : ℕ) (target_is : target ≡ target_of pass.generation pass.raise)
-      (swept : IsSwept h.heap (end_state h.heap words1 pages1 marks1 pins.listed pass moves2) target words2 pages2 freed2)
+      (swept : ArePagesSwept h.heap (end_state h.heap words1 pages1 marks1 pins.listed pass moves2) target words2 pages2 freed2)
       (between notes2 : PassNotes) (between_moves : between.moves ≡ notes1.moves) (between_freed : between.freed.items ≡ freed2) (between_culls : between.culls ≡ notes1.culls)
       (between_breaks : between.breaks ≡ notes1.breaks) (between_queued : between.queued ≡ notes1.queued) (finished : AreFinished between notes2 pins.listed pass target count) where
-    swept-is : IsSwept h.heap (end_state h.heap words1 pages1 marks1 pins.listed pass notes1.moves.items) (target_of pass.generation pass.raise) words2 pages2 freed2
+    swept-is : ArePagesSwept h.heap (end_state h.heap words1 pages1 marks1 pins.listed pass notes1.moves.items) (target_of pass.generation pass.raise) words2 pages2 freed2
     swept-is =
-        subst (λ (n : ℕ). IsSwept h.heap (end_state h.heap words1 pages1 marks1 pins.listed pass notes1.moves.items) n words2 pages2 freed2) target_is
-        (subst (λ (ms : List Move). IsSwept h.heap (end_state h.heap words1 pages1 marks1 pins.listed pass ms) target words2 pages2 freed2) moves_are swept)
+        subst (λ (n : ℕ). ArePagesSwept h.heap (end_state h.heap words1 pages1 marks1 pins.listed pass notes1.moves.items) n words2 pages2 freed2) target_is
+        (subst (λ (ms : List Move). ArePagesSwept h.heap (end_state h.heap words1 pages1 marks1 pins.listed pass ms) target words2 pages2 freed2) moves_are swept)
 
     is-pass : IsPass h.heap pass.generation (target_of pass.generation pass.raise) the_end.0
     unfolding end_state
@@ -156,21 +160,22 @@ module _ (h : Rooted) (words : List ℕ) (pages : List Entry) (exact ambiguous :
           weak = subst (λ (live : ℕ → Bool). AreWeakNames h.heap live same.weak_names) settled-remains same.weak;
           culls = ap (λ v. v.items) finished.culls ∙ ap (λ v. v.items) between_culls ∙ same.culls ∙ ap (λ (live : ℕ → Bool). culled_of h.heap live same.weak_names) settled-remains;
           breaks = ap (λ v. v.items) finished.breaks ∙ ap (λ v. v.items) between_breaks ∙ same.breaks ∙ ap (λ (live : ℕ → Bool). broken_of h.heap live same.weak_names) settled-remains;
-          queued = ap (λ v. v.items) finished.queued ∙ ap (λ v. v.items) between_queued ∙ ap (λ v. v.items) same.queued ∙ cleared.queued
-              ∙ sym (e.is_pass.queued ∙ ap (λ (entries : List (ℕ × ℕ)). map (λ entry. entry.1) (filter (λ entry. not (remains h.heap the_end.0 entry.0)) entries)) can.no_finalizers);
+          queued = ap (λ v. v.items) finished.queued ∙ ap (λ v. v.items) between_queued ∙ same.queued ∙ ap (λ (live : ℕ → Bool). dead_ids live h.heap.finalizers) settled-remains ∙ sym e.is_pass.queued;
           freed = ap (λ v. v.items) finished.freed ∙ between_freed
               ∙ freed-after h.heap (end_state h.heap words1 pages1 marks1 pins.listed pass notes1.moves.items) traced.places (target_of pass.generation pass.raise) the_end.0 the_end.1 words2 pages2 freed2 swept-is;
           dead = omega arith;
           kept = omega arith;
         }
 
-    pub pass-done : IsPassDone h words2 pages2 exact1 ambiguous pass notes2
-    pass-done = record {
+    pub pass-done : (old new : Lists) → FinalizersStand h.heap old →
+        IsSwept h.heap (end_state h.heap words1 pages1 marks1 pins.listed pass notes1.moves.items) h.heap.finalizers old new → IsPassDone h words2 pages2 new exact1 ambiguous pass notes2
+    pass-done old new finalizers listed = record {
       r = the_end.0;
       is_pass = is-pass;
       told = told;
       stand = stand-after h (end_state h.heap words1 pages1 marks1 pins.listed pass notes1.moves.items) exact1 ambiguous exact traced can.stand.roots (target_of pass.generation pass.raise)
           the_end.0 the_end.1 (target-low pass can.generation) words2 pages2 freed2 swept-is;
+      finalizers_stand = swept-stand h.heap (end_state h.heap words1 pages1 marks1 pins.listed pass notes1.moves.items) the_end.0 old new finalizers listed the_end.1.remains_are the_end.1.words;
     }
 
     -- the room is clear again

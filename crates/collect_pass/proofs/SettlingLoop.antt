@@ -1,5 +1,5 @@
 -- The loop that settles all that is live: where it stands after so many rounds, and at its end.
-use Rattle.std.proofs.Common.{◌≡◌, ℕ, ◌+◌, ◌*◌, ◌<◌, ◌≤◌, List, length, Some, Bool, true, inl, inr, refl, sym, ◌∙◌, ap, subst, arith, length-append}
+use Rattle.std.proofs.Common.{◌≡◌, ℕ, ◌≤◌, length, Some, true, sym, ◌∙◌, ap, arith, length-append}
 use Rattle.heap_terms.specs.Heap.{NamedHeap, object_at}
 use Rattle.heap_terms.specs.Objects.{Object}
 use Rattle.copy_space.specs.Frames.{Grows}
@@ -9,12 +9,12 @@ use Rattle.copy_space.specs.State.{CopyState}
 use Rattle.copy_space.proofs.FrameLaws.{Follows-from_Goes}
 use Rattle.pin_set.specs.Starts.{Starts}
 use Rattle.scavenge.specs.declared.queue.Scanned.{Scanned}
-use Rattle.scavenge.specs.Noting.{CanNote, Notes}
-use Rattle.scavenge.specs.Scanning.{AllOfGenerationScanned, AreScanned, CanScan, IsAllScanned, OthersScanned, Scans}
+use Rattle.scavenge.specs.Noting.{Notes}
+use Rattle.scavenge.specs.Scanning.{AreScanned, CanScan, IsAllScanned, OthersScanned, Scans}
 use Rattle.scavenge.proofs.Carried.{every-scanned, nothing-scanned, others-on}
 use Rattle.scavenge.proofs.Frames.{scans-on}
 use Rattle.scavenge.proofs.NotedStarts.{can-later, named-starts, notes-over}
-use Rattle.scavenge.proofs.QueueLaws.{all-scanned, moves-most, scanned-on}
+use Rattle.scavenge.proofs.QueueLaws.{all-scanned, scanned-on}
 use Rattle.weak_refs.specs.Readying.{AreReady, CanReady, HasSameMoves, Readies}
 use Rattle.collect_pass.specs.Settling.{AreAllSettled, CanSettleAll}
 use Rattle.collect_pass.proofs.Keeping.{keeps-all}

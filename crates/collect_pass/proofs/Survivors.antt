@@ -1,6 +1,6 @@
 -- What survives of a settled object holds live values alone, where what the object keeps is settled. And of an object that is
 -- no weak pointer and no table everything survives, and none of its words is a side.
-use Rattle.std.proofs.Common.{◌≡◌, ℕ, zero, suc, ◌+◌, ◌-◌, ◌*◌, ◌<◌, List, [], ◌∷◌, ◌++◌, length, map, replicate, get_or, Bool, true, false, inl, inr, refl, sym, ◌∙◌, ap, subst, Some}
+use Rattle.std.proofs.Common.{◌≡◌, ℕ, zero, suc, ◌+◌, ◌-◌, ◌*◌, List, [], ◌∷◌, ◌++◌, length, map, replicate, Bool, true, false, inl, inr, refl, sym, ◌∙◌, subst, Some}
 use Rattle.std.proofs.lemmas.Bool.{and_parts, cases_Bool, false≢true}
 use Rattle.std.proofs.lemmas.Option.{same_Some}
 use Rattle.std.specs.Prelude.{slice_get, flat_map, filter, pos, if◌then◌else◌, ◌&&◌}
@@ -9,7 +9,6 @@ use Rattle.heap_terms.specs.declared.cells.Value.TheVariants.{Unbound}
 use Rattle.heap_terms.specs.declared.kinds.Kind.{Kind}
 use Rattle.heap_terms.specs.declared.kinds.Kind.TheVariants as kinds
 use Rattle.heap_terms.specs.declared.kinds.Weakness.{Weakness}
-use Rattle.heap_terms.specs.Heap.{zero_value}
 use Rattle.heap_terms.specs.Layout.{fixnum_word, header_of, size_with_header, weakness_number}
 use Rattle.heap_terms.specs.Live.{is_live, AreLive, Keeps, KeepPairs}
 use Rattle.heap_terms.specs.Objects.{Contents, ConsOf, VectorOf, InstanceOf, ClosureOf, WordsOf, WeakTo, TableOf}

@@ -16,10 +16,10 @@ pub record AreNotesFor (notes : PassNotes) (pages pins weak : ℕ) : Type 0 wher
   pub for_culls : 64 * weak ≤ vec_capacity notes.culls
   pub for_breaks : weak ≤ vec_capacity notes.breaks
 
--- what contracts see of the room: it is for as many pages as there are flags, for as many ambiguous roots as pins, and for
--- as many weak pointers and tables as can be listed
+-- what contracts see of the room: it is for as many pages as there are flags, for as many ambiguous roots as pins, for as
+-- many weak pointers and tables as can be listed, and for as many queued finalizers as can be noted
 abbrev pub room_view : Inside → RoomView
-room_view r = record { notes = r.notes; pages = length r.held; ambiguous = r.pins.most; weak = r.weak.most }
+room_view r = record { notes = r.notes; pages = length r.held; ambiguous = r.pins.most; weak = r.weak.most; queued = vec_capacity r.notes.queued }
 
 -- nothing is marked, hinted, pinned, listed or held
 pub record IsRoom (r : Inside) : Type 0 where
@@ -44,6 +44,7 @@ pub record AreCleared (old new : PassNotes) : Type 0 where
   pub freed_room : vec_capacity new.freed ≡ vec_capacity old.freed
   pub culls_room : vec_capacity new.culls ≡ vec_capacity old.culls
   pub breaks_room : vec_capacity new.breaks ≡ vec_capacity old.breaks
+  pub queued_room : vec_capacity new.queued ≡ vec_capacity old.queued
 
 -- notes can be finished: there is room for the pins, and no more objects remain than the generation had
 pub record CanFinish (notes : PassNotes) (pins : List ℕ) (count : ℕ) : Type 0 where

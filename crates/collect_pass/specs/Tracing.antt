@@ -15,6 +15,9 @@ use Rattle.copy_space.specs.CullNotes.{culled_of, broken_of}
 use Rattle.copy_space.specs.Notes.{SameRest}
 use Rattle.copy_space.specs.State.{CopyState}
 use Rattle.copy_space.specs.WeakNames.{AreWeakNames, weak_count}
+use Rattle.finalizers.specs.Lists.{Lists}
+use Rattle.finalizers.specs.Standing.{FinalizersStand}
+use Rattle.finalizers.specs.Sweeping.{dead_ids}
 use Rattle.pin_set.specs.Starts.{Starts}
 use Rattle.trace_laws.specs.Rooted.{Rooted, RootsStand}
 use Rattle.trace_laws.specs.Traced.{ArePinnedStarts}
@@ -68,11 +71,18 @@ pub record CanTrace (h : Rooted) (words : List ℕ) (pages : List Entry) (marks 
   pub culls_room : 64 * weak_count h.heap ≤ vec_capacity notes.culls
   pub breaks_room : weak_count h.heap ≤ vec_capacity notes.breaks
 
+-- finalizers can be swept: list and queue stand for those of the heap, nothing is queued yet, and there is room for the numbers of all
+pub record CanFinalize (a : NamedHeap) (finalizers : Lists) (notes : PassNotes) : Type 0 where
+  pub stand : FinalizersStand a finalizers
+  pub none : notes.queued.items ≡ []
+  pub room : length finalizers.registered ≤ vec_capacity notes.queued
+
 -- The notes of tracing, of a pass that settled these names: the culls and breaks are those of the weak pointers and tables
--- that are settled, in the order in which these were met. Nothing is queued, and the rest of the notes is as it was.
+-- that are settled, in the order in which these were met. The numbers of the finalizers of the others are queued, in the
+-- order of registration, and the rest of the notes is as it was.
 pub record AreTraceNotes (a : NamedHeap) (live : ℕ → Bool) (old new : PassNotes) : Type 0 where
   pub rest : SameRest old new
-  pub queued : new.queued ≡ old.queued
+  pub queued : new.queued.items ≡ dead_ids live a.finalizers
   pub weak_names : List ℕ
   pub weak : AreWeakNames a live weak_names
   pub culls : new.culls.items ≡ culled_of a live weak_names
@@ -80,3 +90,4 @@ pub record AreTraceNotes (a : NamedHeap) (live : ℕ → Bool) (old new : PassNo
   pub moves_room : vec_capacity new.moves ≡ vec_capacity old.moves
   pub culls_room : vec_capacity new.culls ≡ vec_capacity old.culls
   pub breaks_room : vec_capacity new.breaks ≡ vec_capacity old.breaks
+  pub queued_room : vec_capacity new.queued ≡ vec_capacity old.queued

@@ -1,6 +1,6 @@
 //! The room for passes.
 
-ghost use Rattle.std.specs.Prelude.{◌≡◌, ◌*◌, ◌+◌, ◌-◌, ◌≤◌, IfOk};
+ghost use Rattle.std.specs.Prelude.{◌≡◌, ◌*◌, ◌+◌, ◌-◌, ◌≤◌, IfOk, OnOk};
 ghost use Rattle.heap_terms.specs.declared.limits.TheConstants.{MOST_PAGES};
 ghost use Rattle.collect_pass.specs.Pass.{IsReservedFor};
 ghost use Rattle.collect_pass.specs.Room.{AreNotesFor};
@@ -55,6 +55,18 @@ impl PassRoom {
             held: HeldPages::new(alloc, pages)?,
             notes: reserve_notes(alloc, pages, ambiguous, weak)?,
         })
+    }
+
+    /// Makes room for the numbers of so many finalizers, before the passes of a collection. It is
+    /// refused only for want of memory; what the room is for else stays.
+    pub fn reserve_queued(&mut self, most: u32) -> Result<(), Memory>
+        ensures queued { OnOk result (most ≤ self.new.queued) }
+        ensures pages { self.new.pages ≡ self.old.pages }
+        ensures ambiguous { self.new.ambiguous ≡ self.old.ambiguous }
+        ensures weak { self.new.weak ≡ self.old.weak }
+    {
+        self.notes.queued.reserve(most as usize)?;
+        Ok(())
     }
 
     /// The notes of the latest pass.

@@ -1,10 +1,11 @@
 //! Tracing: the roots are evacuated, and what they reach is scanned, until nothing is left. Then dead
-//! pairs are culled and weak pointers broken.
+//! pairs are culled, weak pointers broken, and the finalizers of what died queued.
 
 ghost use Rattle.std.specs.Prelude.{◌≡◌};
 ghost use Rattle.heap_terms.specs.Heap.{NamedHeap};
 ghost use Rattle.copy_space.specs.Settled.{is_settled};
 ghost use Rattle.copy_space.specs.State.{state};
+ghost use Rattle.finalizers.specs.Sweeping.{IsSwept};
 ghost use Rattle.scavenge.specs.Fields.{IsSameCopier};
 ghost use Rattle.scavenge.specs.Noting.{Notes};
 ghost use Rattle.scavenge.specs.Scanning.{Scans};
@@ -12,9 +13,10 @@ ghost use Rattle.trace_laws.specs.Rooted.{Rooted};
 ghost use Rattle.trace_laws.specs.Traced.{IsTraced};
 ghost use Rattle.collect_pass.specs.Evacuated.{CanEvacuateRoots, AreEvacuated};
 ghost use Rattle.collect_pass.specs.Settling.{CanSettleAll, AreAllSettled};
-ghost use Rattle.collect_pass.specs.Tracing.{AreTraceNotes, CanTrace, end_state};
+ghost use Rattle.collect_pass.specs.Tracing.{AreTraceNotes, CanFinalize, CanTrace, end_state};
 
 use copy_space::{Copier, Marks, Pass, PassNotes};
+use finalizers::Finalizers;
 use page_table::PageTable;
 use pin_set::PinSet;
 use scavenge::{Scanned, scavenge_all, scavenge_older};
@@ -34,8 +36,8 @@ fn evacuate_roots(copier: &mut Copier, exact: &mut [u64])
 }
 
 /// Moves all that is live of the generation of a pass, as far as it finds places, rewrites the exact
-/// roots and the fields of all objects, culls dead pairs and breaks weak pointers to what is dead.
-/// `weak` lists the weak pointers and tables then.
+/// roots and the fields of all objects, culls dead pairs, breaks weak pointers to what is dead, and
+/// queues the finalizers of what is dead. `weak` lists the weak pointers and tables then.
 pub(crate) fn trace(
     space: &mut Space,
     pages: &mut PageTable,
@@ -46,11 +48,14 @@ pub(crate) fn trace(
     notes: &mut PassNotes,
     weak: &mut PinSet,
     waiting: &mut Waiting,
+    finalizers: &mut Finalizers,
 )
     ghost h: { Rooted }
-    requires { CanTrace h space.old pages.old marks.old pins.now.listed pass exact.old notes.old weak.old }
+    requires can { CanTrace h space.old pages.old marks.old pins.now.listed pass exact.old notes.old weak.old }
+    requires queue { CanFinalize h.heap finalizers.old notes.old }
     ensures traced { IsTraced h (end_state h.heap space.new pages.new marks.new pins.now.listed pass notes.new.moves.items) exact.new }
     ensures notes { AreTraceNotes h.heap (is_settled h.heap (end_state h.heap space.new pages.new marks.new pins.now.listed pass notes.new.moves.items)) notes.old notes.new }
+    ensures finalizers { IsSwept h.heap (end_state h.heap space.new pages.new marks.new pins.now.listed pass notes.new.moves.items) h.heap.finalizers finalizers.old finalizers.new }
     ensures most { weak.new.most ≡ weak.old.most }
 {
     let mut copier = Copier::new(space, pages, marks, pins, pass, notes);
@@ -59,6 +64,7 @@ pub(crate) fn trace(
     settle_all(&mut copier, weak, waiting);
     cull(weak, &mut copier);
     break_dead(weak, &mut copier);
+    finalizers.sweep(&mut copier);
 }
 
 /// Scans what is settled, and settles what that and the pairs of tables keep, until nothing is left.

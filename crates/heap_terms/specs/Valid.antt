@@ -73,7 +73,8 @@ built_words = codes "lispheap" ∷ codes "heap" ∷ codes "auto" ∷ codes "thre
     ∷ codes "vector" ∷ codes "instance" ∷ codes "closure" ∷ codes "words" ∷ codes "weak" ∷ codes "table"
     ∷ codes "get" ∷ codes "put" ∷ codes "rawget" ∷ codes "rawput" ∷ codes "eq" ∷ codes "show" ∷ codes "addr"
     ∷ codes "raw" ∷ codes "add" ∷ codes "pin" ∷ codes "unpin" ∷ codes "weakval" ∷ codes "tput" ∷ codes "tget" ∷ codes "trem"
-    ∷ codes "tcount" ∷ codes "gc" ∷ codes "nogc" ∷ codes "gcok" ∷ codes "page" ∷ codes "stat" ∷ codes "schedule" ∷ codes "end" ∷ []
+    ∷ codes "tcount" ∷ codes "gc" ∷ codes "nogc" ∷ codes "gcok" ∷ codes "page" ∷ codes "stat"
+    ∷ codes "finalize" ∷ codes "cancel" ∷ codes "runfin" ∷ codes "schedule" ∷ codes "end" ∷ []
 
 -- whether a word is among them
 abbrev pub is_built : List ℕ → Bool

@@ -9,6 +9,8 @@ use Rattle.heap_terms.specs.declared.events.Event.TheVariants.{Collected}
 use Rattle.heap_terms.specs.declared.events.PassRecord.{PassRecord}
 use Rattle.heap_terms.specs.declared.pages.Entry.{Entry}
 use Rattle.heap_terms.specs.declared.pages.Next.TheVariants as nexts
+use Rattle.finalizers.specs.Lists.{Lists}
+use Rattle.finalizers.specs.Standing.{FinalizersStand}
 use Rattle.generation_policy.specs.declared.stats.GenStats.{GenStats}
 use Rattle.heap_laws.proofs.SoundHeaps.{commits_few, commits_within, replay-numbers}
 use Rattle.heap_terms.specs.Collections.{ArePasses, after_passes, closed}
@@ -17,7 +19,7 @@ use Rattle.heap_terms.specs.Heap.{NamedHeap, thread_at}
 use Rattle.heap_terms.specs.Histories.{IsNext, after}
 use Rattle.heap_terms.specs.Spelling.{word_of}
 use Rattle.heap_terms.specs.WellFormed.{IsWellFormed}
-use Rattle.collect_pass.specs.Pass.{IsReservedFor, RoomView}
+use Rattle.collect_pass.specs.Pass.{CanQueue, IsReservedFor, RoomView}
 use Rattle.trace_laws.specs.Rooted.{Rooted, StandFor}
 use Rattle.lisp_heap.specs.Agreement.{Agrees}
 use Rattle.lisp_heap.specs.CellsView.{with_exact_words}
@@ -40,7 +42,7 @@ use Rattle.lisp_heap.proofs.FlatCells.{flat_long}
 use Rattle.lisp_heap.proofs.PerformLemmas.{Holds-same}
 use Rattle.lisp_heap.proofs.Soundness.{heap, well_formed}
 use Rattle.lisp_heap.proofs.Stepping.{happens_after, heap_after, sound_after}
-use Rattle.lisp_heap.proofs.NoFinalizers.{replay-no_finalizers}
+use Rattle.lisp_heap.proofs.FinalizersKept.{registered_long}
 use Rattle.lisp_heap.proofs.RecordSizing.{rooms_within}
 use Rattle.pair_laws.proofs.Counting.{pairs_few}
 use Rattle.pair_laws.specs.Counts.{pair_count}
@@ -78,7 +80,6 @@ module _ (s : Inside) (i : IsSound s) (w : View) (view : view_of s ≡ w) (h : R
         program = s.program;
         formed = closed_wf s.program (heap s) wf;
         regions = closed_none (heap s);
-        no_finalizers = replay-no_finalizers s.program s.history.items i.valid i.lawful;
         pairs_few = omega arith;
         few_pages = omega (arith, wf.pages_length, i.valid.pages_most);
         numbers = record { words = numbers.words; cum = numbers.cum; num = numbers.num; counted = numbers.counted };
@@ -116,33 +117,41 @@ module _ (s : Inside) (i : IsSound s) (w : View) (view : view_of s ≡ w) (h : R
       let few = pairs_few s.program s.history.items in
       omega (arith, same, few)
 
-  none_here : length h.heap.finalizers ≡ 0
-  none_here = ap (λ (x : Rooted). length x.heap.finalizers) h_is ∙ ap (λ (xs : List (ℕ × ℕ)). length xs) (replay-no_finalizers s.program s.history.items i.valid i.lawful)
+  listed_before : FinalizersStand h.heap s.finalizers
+  listed_before = subst (λ (x : Rooted). FinalizersStand x.heap s.finalizers) (sym h_is) holds_b.finalizers
 
   -- and for its records
   pub have_rooms : (rooms : List RecordRoom) (ambiguous : List ℕ) (sizes : RecordSizes) → sizes.moves ≡ s.commits → sizes.pins ≡ length ambiguous →
-      sizes.culls ≡ length s.history.items → sizes.breaks ≡ s.commits → sizes.freed ≡ length s.pages → AreRooms rooms sizes →
+      sizes.culls ≡ length s.history.items → sizes.breaks ≡ s.commits → sizes.queued ≡ length s.finalizers.registered → sizes.freed ≡ length s.pages → AreRooms rooms sizes →
       AreRooms rooms (sizes_of h.heap (length ambiguous))
-  have_rooms rooms ambiguous sizes moves pins culls breaks freed fit = rooms_within rooms (sizes_of h.heap (length ambiguous)) sizes fit (record {
+  have_rooms rooms ambiguous sizes moves pins culls breaks queued freed fit = rooms_within rooms (sizes_of h.heap (length ambiguous)) sizes fit (record {
       moves = omega (arith, moves, objects_here);
       pins = omega (arith, pins);
       culls = omega (arith, culls, pairs_here);
       breaks = omega (arith, breaks, objects_here);
-      queued = omega (arith, none_here);
+      queued = omega (arith, queued, registered_long h.heap s.finalizers listed_before);
       freed = omega (arith, freed, pages_here);
     })
+
+  -- its finalizers can be queued
+  pub can_queue : (room : RoomView) → length s.finalizers.registered ≤ room.queued → CanQueue h.heap s.finalizers room
+  can_queue room reserved = record { stand = listed_before; reserved = reserved }
 
   -- ---- after the passes
 
   module _ (t last : ℕ) (lt : t < length w.program.threads) (collects : next_of w t ≡ nexts.Collect last) (allowed : (u : ℕ) → (thread_at (heap_of w) u).inhibits ≡ 0)
       (records : List PassRecord) (words : List ℕ) (pages : List Entry) (labels exact ambiguous : List ℕ) (stats : GenStats) (ambiguous_is : ambiguous ≡ ambiguous_roots s.cells s.pins)
-      (made : Stand h last words pages labels exact ambiguous stats records) (passes : ArePasses h.heap last 0 records) where
+      (made : Stand h last words pages labels exact ambiguous stats records) (passes : ArePasses h.heap last 0 records) (lists : Lists)
+      (listed : FinalizersStand (after_passes h.heap last 0 records) lists) where
     made_here : Stand (rooted (closed (heap s))) last words pages labels exact (ambiguous_roots s.cells s.pins) stats records
     made_here = subst (λ (x : Rooted). Stand x last words pages labels exact (ambiguous_roots s.cells s.pins) stats records) h_is
         (subst (λ (xs : List ℕ). Stand h last words pages labels exact xs stats records) ambiguous_is made)
 
     are : ArePasses (closed (heap s)) last 0 records
     are = subst (λ (x : Rooted). ArePasses x.heap last 0 records) h_is passes
+
+    listed_here : FinalizersStand (after_passes (closed (heap s)) last 0 records) lists
+    listed_here = subst (λ (x : Rooted). FinalizersStand (after_passes x.heap last 0 records) lists) h_is listed
 
     here : t < length s.program.threads
     here = thread_in s w view t lt
@@ -163,10 +172,10 @@ module _ (s : Inside) (i : IsSound s) (w : View) (view : view_of s ≡ w) (h : R
         (subst (λ (v : View). (u : ℕ) → (thread_at (heap_of v) u).inhibits ≡ 0) (sym view) allowed) are
 
     abbrev parts : Parts
-    parts = parts_then s.program (heap s) (parts_of s) wf i.holds t last records here are words pages labels exact stats made_here.stand made_here.named made_here.counted made_here.objects_long (replay-no_finalizers s.program s.history.items i.valid i.lawful)
+    parts = parts_then s.program (heap s) (parts_of s) wf i.holds t last records here are words pages labels exact stats made_here.stand made_here.named made_here.counted made_here.objects_long lists listed_here
 
     held : Holds (after s.program (heap s) event) parts
-    held = collected_holds s.program (heap s) (parts_of s) wf i.holds t last records here are words pages labels exact stats made_here.stand made_here.named made_here.counted made_here.objects_long (replay-no_finalizers s.program s.history.items i.valid i.lawful)
+    held = collected_holds s.program (heap s) (parts_of s) wf i.holds t last records here are words pages labels exact stats made_here.stand made_here.named made_here.counted made_here.objects_long lists listed_here
 
     -- the fields of a World to which all that was written
     pub record Written (x : Inside) : Type 0 where
@@ -182,7 +191,7 @@ module _ (s : Inside) (i : IsSound s) (w : View) (view : view_of s ≡ w) (h : R
       pub stats_are : x.stats ≡ stats
       pub counted : x.counted ≡ s.counted
       pub triggered : x.triggered ≡ s.triggered
-      pub finalizers : x.finalizers ≡ s.finalizers
+      pub finalizers : x.finalizers ≡ lists
       pub scratch : ForSome x.scratch (IsRoomFor x.program)
 
     pub sound_then : (x : Inside) → Written x → IsSound x

@@ -43,6 +43,9 @@ IsSimple commands.Inhibit = Unit {0}
 IsSimple commands.Allow = Unit {0}
 IsSimple (commands.ShowPage p) = Unit {0}
 IsSimple (commands.Stat g) = Unit {0}
+IsSimple (commands.Finalize c id) = Unit {0}
+IsSimple (commands.Cancel c) = Unit {0}
+IsSimple commands.RunFinalizers = Unit {0}
 IsSimple _ = ⊥
 
 simple : (c : Command) → IsBuilt c → wish_of c ≡ Nothing → IsSimple c
@@ -77,6 +80,9 @@ simple commands.Inhibit built wish = tt
 simple commands.Allow built wish = tt
 simple (commands.ShowPage p) built wish = tt
 simple (commands.Stat g) built wish = tt
+simple (commands.Finalize c id) built wish = tt
+simple (commands.Cancel c) built wish = tt
+simple commands.RunFinalizers built wish = tt
 simple _ built wish = absurd built
 
 -- what a thread does that allocates nothing is one of these

@@ -1,15 +1,20 @@
 -- What stands for a heap's finalizers stands for those of another heap with the same finalizers.
-use Rattle.std.proofs.Common.{◌≡◌, ℕ, List, [], ◌∷◌, map, refl, sym, ◌∙◌, subst, ap, ap₂, Option, Some}
+use Rattle.std.proofs.Common.{◌≡◌, ℕ, ◌≤◌, List, [], ◌∷◌, length, filter, not, Bool, arith, refl, sym, ◌∙◌, ap, ap₂, Option}
 use Rattle.std.specs.Prelude.{All, IsSome}
+use Rattle.std.proofs.lemmas.List.{length-map}
 use Rattle.std.proofs.lemmas.List.Elements.{All-head, All-tail}
+use Rattle.std.proofs.lemmas.List.Filters.{length-filter_both}
 use Rattle.heap_terms.specs.declared.cells.Value.TheVariants.{Ref}
 use Rattle.heap_terms.specs.Heap.{NamedHeap, object_at}
+use Rattle.heap_terms.specs.declared.events.PassRecord.{PassRecord}
 use Rattle.heap_terms.specs.Objects.{Object}
+use Rattle.heap_terms.specs.Passes.{after_pass, remains}
+use Rattle.heap_terms.specs.Survival.{registered}
 use Rattle.heap_terms.specs.Sound.{IsFinalizer}
 use Rattle.heap_terms.specs.Spelling.{word_of}
 use Rattle.finalizers.specs.declared.lists.Registration.{Registration}
 use Rattle.finalizers.specs.Lists.{Lists}
-use Rattle.finalizers.specs.Standing.{FinalizersStand, registrations}
+use Rattle.finalizers.specs.Standing.{FinalizersStand, registration_of, registrations}
 
 pub FinalizersStand-same : (a b : NamedHeap) (f : Lists) → b.objects ≡ a.objects → b.finalizers ≡ a.finalizers → b.queue ≡ a.queue → FinalizersStand a f → FinalizersStand b f
 FinalizersStand-same a b f objects finalizers queue s = record {
@@ -37,14 +42,6 @@ FinalizersStand-everywhere a b f same finalizers queue s =
       queue = s.queue ∙ sym queue;
     }
 
--- no finalizers, and the same queue
-pub FinalizersStand-none : (a b : NamedHeap) (f : Lists) → a.finalizers ≡ [] → b.finalizers ≡ [] → b.queue ≡ a.queue → FinalizersStand a f → FinalizersStand b f
-FinalizersStand-none a b f none still queue s = record {
-  registered = s.registered ∙ ap (λ (list : List (ℕ × ℕ)). registrations (λ name. word_of a.objects (Ref name)) list) none
-      ∙ ap (λ (list : List (ℕ × ℕ)). registrations (λ name. word_of b.objects (Ref name)) list) (sym still);
-  queue = s.queue ∙ sym queue;
-}
-
 pub FinalizersStand-words : (a b : NamedHeap) (f : Lists) → All (IsFinalizer a.objects) a.finalizers →
     ((name : ℕ) → IsSome (object_at a.objects name) → word_of b.objects (Ref name) ≡ word_of a.objects (Ref name)) →
     b.finalizers ≡ a.finalizers → b.queue ≡ a.queue → FinalizersStand a f → FinalizersStand b f
@@ -53,3 +50,18 @@ FinalizersStand-words a b f all same finalizers queue s = record {
       ∙ ap (λ (list : List (ℕ × ℕ)). registrations (λ name. word_of b.objects (Ref name)) list) (sym finalizers);
   queue = s.queue ∙ sym queue;
 }
+
+-- ---- a pass
+
+-- as many as the heap has
+pub registered_long : (a : NamedHeap) (f : Lists) → FinalizersStand a f → length f.registered ≡ length a.finalizers
+registered_long a f s = ap length s.registered ∙ length-map a.finalizers (registration_of (λ name. word_of a.objects (Ref name)))
+
+-- no more remain than were registered
+pub registered_few : (a : NamedHeap) (r : PassRecord) (f g : Lists) → FinalizersStand a f → FinalizersStand (after_pass a r) g → length g.registered ≤ length f.registered
+unfolding after_pass
+registered_few a r f g s t =
+    let both = length-filter_both (λ (entry : ℕ × ℕ). remains a r entry.0) (λ (entry : ℕ × ℕ). not (remains a r entry.0)) (λ entry. refl) a.finalizers in
+    let before = ap length s.registered ∙ length-map a.finalizers (registration_of (λ name. word_of a.objects (Ref name))) in
+    let after = ap length t.registered ∙ length-map (registered a (remains a r)) (registration_of (λ name. word_of (after_pass a r).objects (Ref name))) in
+    omega arith

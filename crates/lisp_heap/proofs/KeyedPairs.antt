@@ -1,9 +1,7 @@
 -- Pairs of values beside pairs of their words: where the pair of a key stands, and what a change there makes of the pairs.
-use Rattle.std.proofs.Common.{◌≡◌, ◌≢◌, ℕ, zero, suc, ◌+◌, ◌<◌, List, [], ◌∷◌, ◌++◌, length, map, take, drop, set, get_or, Some, None, Bool, true, false, inl, inr, refl, sym, ◌∙◌, ap, subst, arith}
-use Rattle.std.proofs.lemmas.Bool.{cases_Bool}
-use Rattle.std.specs.Prelude.{filter, not}
+use Rattle.std.proofs.Common.{◌≡◌, ◌≢◌, ℕ, zero, suc, ◌+◌, ◌<◌, List, [], ◌∷◌, ◌++◌, length, take, drop, set, Some, None, true, false, refl, ap, arith}
 use Rattle.heap_terms.specs.declared.cells.Value.{Value}
-use Rattle.heap_terms.specs.Pairs.{same_value, is_pair_of, has_key, value_at, with_pair, without_key}
+use Rattle.heap_terms.specs.Pairs.{is_pair_of, has_key, value_at, with_pair, without_key}
 use Rattle.lisp_heap.proofs.TableSlots.{pair_of}
 
 -- a key stands in one pair alone, at this number

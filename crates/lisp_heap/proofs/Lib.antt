@@ -17,6 +17,8 @@ pub mod Rooms
 pub mod Wanted
 pub mod Nexts
 pub mod Stepping
+pub mod FinalizerSteps
+pub mod FinalizerPlans
 pub mod Agreeing
 pub mod Wishing
 pub mod Elsewhere
@@ -33,7 +35,6 @@ pub mod Starting
 pub mod Ending
 pub mod Leasing
 pub mod Relabelling
-pub mod NoFinalizers
 pub mod RecordSizing
 pub mod WeakNoted
 pub mod Recorded

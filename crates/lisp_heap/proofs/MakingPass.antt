@@ -12,6 +12,8 @@ use Rattle.copy_space.specs.declared.notes.Pass.{Pass}
 use Rattle.copy_space.specs.declared.notes.PassNotes.{PassNotes}
 use Rattle.copy_space.specs.Moved.{noted}
 use Rattle.trace_laws.specs.Rooted.{Rooted}
+use Rattle.finalizers.specs.Lists.{Lists}
+use Rattle.finalizers.specs.Standing.{FinalizersStand}
 use Rattle.lisp_heap.specs.Collecting.{CanMake, IsMade}
 use Rattle.lisp_heap.specs.Recording.{AreWithin, CanRelabel, HasRoom, HaveLabels, recorded, relabelled, sizes_noted, sizes_of}
 use Rattle.lisp_heap.specs.Standing.{LabelsStand}
@@ -25,7 +27,7 @@ use Rattle.lisp_heap.proofs.Relabelling.{LabelsStand-pass, can_relabel}
 
 module _ (h : Rooted) (words : List ℕ) (pages : List Entry) (labels exact ambiguous : List ℕ) (pass : Pass) (room : RoomView) (record_room : RecordRoom)
     (can : CanMake h words pages labels exact ambiguous pass room record_room) (words' : List ℕ) (pages' : List Entry) (exact' ambiguous' : List ℕ) (n : PassNotes)
-    (done : IsPassDone h words' pages' exact' ambiguous' pass n) where
+    (lists : Lists) (done : IsPassDone h words' pages' lists exact' ambiguous' pass n) where
   pub labels_there : HaveLabels labels n
   labels_there = have_labels h.heap labels n done.r can.can.stand.sound can.few_pages can.named done.told
 
@@ -55,6 +57,9 @@ module _ (h : Rooted) (words : List ℕ) (pages : List Entry) (labels exact ambi
     is_told =
         written (met_in h.heap done.r n done.told) (notes_are h.heap done.r n done.told labels (labels_of h.heap labels can.can.stand.sound can.few_pages can.named))
         ∙ recorded_is h.heap pass.generation (target_of pass.generation pass.raise) labels n done.r done.told can.named done.is_pass
+
+    pub lists_stand : FinalizersStand (after_pass h.heap r) lists
+    lists_stand = subst (λ (x : PassRecord). FinalizersStand (after_pass h.heap x) lists) (sym is_told) done.finalizers_stand
 
     pub labels_fit : (moves : List Placing) → moves ≡ r.moves → CanRelabel labels moves
     labels_fit moves are =

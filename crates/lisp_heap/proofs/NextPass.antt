@@ -28,7 +28,6 @@ use Rattle.lisp_heap.specs.Collecting.{CanMake, IsMade}
 use Rattle.lisp_heap.specs.Counted.{CanCount, counted_heap}
 use Rattle.lisp_heap.specs.Recording.{HasRoom, sizes_of}
 use Rattle.lisp_heap.specs.declared.recording.RecordRoom.{RecordRoom}
-use Rattle.lisp_heap.proofs.NoFinalizers.{pass_finalizers}
 use Rattle.lisp_heap.proofs.Unchanged.{LabelsStand-same, WordsStand-same}
 
 -- the two sides of the comparison of an age are small enough
@@ -69,7 +68,6 @@ module _ (h : Rooted) (last n : ℕ) (pass : Pass) (words : List ℕ) (pages : L
       record {
         can = record {
           stand = stand.stand;
-          no_finalizers = stand.no_finalizers;
           generation = omega (arith, generation_is, next.low);
           oldest = λ e. elim (cases_Bool pass.raise) [
             | inl raised ↦ (let low = raised_low raised in absurd (omega (arith, generation_is, low, e)))
@@ -133,7 +131,6 @@ module _ (h : Rooted) (last n : ℕ) (pass : Pass) (words : List ℕ) (pages : L
           program = stand.program;
           formed = formed.0;
           regions = formed.1;
-          no_finalizers = pass_finalizers h.heap r stand.no_finalizers;
           pairs_few = pass_few h.heap r;
           few_pages = omega (arith, paged, stand.few_pages);
           numbers = subst (HasNumbers (after_pass_of h.heap last n r)) (omega arith) numbers;

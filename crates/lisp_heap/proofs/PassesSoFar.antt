@@ -50,7 +50,6 @@ module _ (h : Rooted) (last : ℕ) (records : List PassRecord) (words : List ℕ
     program = stand.program;
     formed = stand.formed;
     regions = stand.regions;
-    no_finalizers = stand.no_finalizers;
     pairs_few = omega arith;
     few_pages = stand.few_pages;
     numbers = stand.numbers;
@@ -81,7 +80,6 @@ module _ (h : Rooted) (last : ℕ) (records : List PassRecord) (words : List ℕ
       program = step.stand.program;
       formed = step.stand.formed;
       regions = step.stand.regions;
-      no_finalizers = step.stand.no_finalizers;
       pairs_few = omega (arith, step.stand.pairs_few, stand.pairs_few);
       few_pages = step.stand.few_pages;
       numbers = step.stand.numbers;

@@ -1,8 +1,8 @@
 -- What the commands on weak pointers and tables answer and change.
-use Rattle.std.proofs.Common.{◌≡◌, ◌≢◌, ℕ, ◌+◌, ◌*◌, ◌<◌, ◌≤◌, ltb, true, false, List, [], ◌∷◌, ◌++◌, length, map, take, drop, set, length-set, length-append, refl, sym, ◌∙◌, subst, ap, arith, inl, inr, Option, Some, None, Bool, ℤ, pos, negsuc}
+use Rattle.std.proofs.Common.{◌≡◌, ◌≢◌, ℕ, ◌+◌, ◌<◌, ◌≤◌, true, false, List, [], ◌∷◌, ◌++◌, length, map, take, drop, set, length-set, length-append, refl, sym, ◌∙◌, subst, ap, arith, Option, Some, None, Bool}
 use Rattle.std.proofs.lemmas.Bool.{lt-ltb, le-ltb}
 use Rattle.std.proofs.lemmas.List.{length-map, length-drop, length-take-le, map-append, map-set, set-get_or, take-map, drop-map}
-use Rattle.std.specs.Prelude.{if◌then◌else◌, option_and_then, slice_index, ◌||◌, nat_lt}
+use Rattle.std.specs.Prelude.{if◌then◌else◌, option_and_then, ◌||◌, nat_lt}
 use Rattle.heap_terms.specs.declared.answers.Answer.{Answer}
 use Rattle.heap_terms.specs.declared.answers.Answer.TheVariants as answers
 use Rattle.heap_terms.specs.declared.answers.Refusal.TheVariants.{NotType, TableFull}
@@ -18,19 +18,19 @@ use Rattle.heap_terms.specs.Cells.{cell_value, with_cell}
 use Rattle.heap_terms.specs.Generations.{allocated}
 use Rattle.heap_terms.specs.Heap.{NamedHeap, object_at}
 use Rattle.heap_terms.specs.Histories.{command_at, next}
-use Rattle.heap_terms.specs.Layout.{nil_word, unbound_word}
+use Rattle.heap_terms.specs.Layout.{nil_word}
 use Rattle.heap_terms.specs.Objects.{Object, Contents, ConsOf, VectorOf, InstanceOf, ClosureOf, WordsOf, WeakTo, TableOf, kind_of}
 use Rattle.heap_terms.specs.Outcome.{Outcome, done, answering, refused, needing}
 use Rattle.heap_terms.specs.Outcomes.{outcome_of}
 use Rattle.heap_terms.specs.Outcomes.TableCommands.{with_pairs_at, found_outcome}
 use Rattle.heap_terms.specs.Outcomes.WeakCommands.{weak_outcome}
 use Rattle.heap_terms.specs.Pairs.{has_key, value_at, with_pair, without_key}
-use Rattle.heap_terms.specs.Referents.{Table, contents_of, pointee_of, pointee_at, table_of, table_at, with_pairs, changed_at, refilled}
+use Rattle.heap_terms.specs.Referents.{Table, contents_of, pointee_of, pointee_at, table_of, table_at, with_pairs, refilled}
 use Rattle.heap_terms.specs.Valid.{IsCell}
 use Rattle.heap_terms.specs.WellFormed.{IsLiving}
 use Rattle.heap_terms.specs.Spelling.{word_of}
-use Rattle.eq_index.specs.Answers.{Finds, HasNo, Inserts, LooksUp, Removes, without}
-use Rattle.eq_index.specs.Tables.{PairWords, IsTable, Becomes}
+use Rattle.eq_index.specs.Answers.{Inserts, LooksUp, Removes}
+use Rattle.eq_index.specs.Tables.{PairWords, Becomes}
 use Rattle.eq_index.specs.declared.inserting.Inserted.{Inserted}
 use Rattle.eq_index.specs.declared.inserting.Inserted.TheVariants.{Added, Replaced, Full}
 use Rattle.lisp_heap.specs.LivingWords.{RefersTo}
@@ -40,11 +40,11 @@ use Rattle.lisp_heap.specs.Standing.{Holds}
 use Rattle.lisp_heap.specs.WorldSound.{IsSound, parts_of}
 use Rattle.lisp_heap.specs.declared.plan.Change.TheVariants as changes
 use Rattle.lisp_heap.specs.declared.world.World.TheInside.{Inside}
-use Rattle.lisp_heap.proofs.KeyedPairs.{no_key, no_value, added_last, none_removed, the_key, the_value, replaced_there, removed_there}
+use Rattle.lisp_heap.proofs.KeyedPairs.{no_key, no_value, added_last, the_key, the_value, replaced_there, removed_there}
 use Rattle.lisp_heap.proofs.ObjectChanges.{Holds-changed}
 use Rattle.lisp_heap.proofs.Plans.{planned}
 use Rattle.lisp_heap.proofs.Soundness.{heap, well_formed}
-use Rattle.lisp_heap.proofs.TablesHere.{in_words, here, shape, value_living, found_at_key, found_nowhere, changes as changes_object, pair_words}
+use Rattle.lisp_heap.proofs.TablesHere.{in_words, shape, value_living, found_at_key, found_nowhere, changes as changes_object, pair_words}
 use Rattle.lisp_heap.proofs.TableSlots.{pair_of}
 use Rattle.lisp_heap.proofs.TableSteps.{IsDoneInSpace, words_kept}
 

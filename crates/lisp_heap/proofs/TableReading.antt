@@ -1,30 +1,28 @@
 -- Weak pointers and tables to which cells of a sound World refer.
 use Rattle.std.proofs.Common.{◌≡◌, ◌≢◌, ℕ, ◌+◌, ◌<◌, List, length, map, ◌∙◌, sym, subst, ap, arith, refl, ◌^◌, Some, ℤ, pos, negsuc}
 use Rattle.std.specs.Prelude.{slice_index}
-use Rattle.heap_terms.specs.declared.cells.Cell.{Cell}
 use Rattle.heap_terms.specs.declared.cells.Value.{Value}
 use Rattle.heap_terms.specs.declared.cells.Value.TheVariants.{Fix, Nil, Unbound, Ref}
 use Rattle.heap_terms.specs.declared.kinds.Kind.TheVariants as kinds
 use Rattle.heap_terms.specs.declared.kinds.Weakness.{Weakness}
-use Rattle.heap_terms.specs.Cells.{cell_value}
-use Rattle.heap_terms.specs.Heap.{NamedHeap, object_at}
+use Rattle.heap_terms.specs.Heap.{NamedHeap}
 use Rattle.heap_terms.specs.Layout.{unbound_word, fixnum_word}
 use Rattle.heap_terms.specs.Living.{HoldsLiving, IsLivingOrUnbound}
-use Rattle.heap_terms.specs.Objects.{Object, Contents, WeakTo, TableOf, kind_of}
-use Rattle.heap_terms.specs.Referents.{Table, pointee_at, table_at}
+use Rattle.heap_terms.specs.Objects.{Object, Contents, WeakTo, TableOf}
+use Rattle.heap_terms.specs.Referents.{pointee_at, table_at}
 use Rattle.heap_terms.specs.Slots.{Side, slot_at}
 use Rattle.heap_terms.specs.Valid.{IsFixnum}
 use Rattle.heap_terms.specs.WellFormed.{IsLiving}
 use Rattle.heap_terms.specs.Spelling.{word_of}
-use Rattle.eq_index.specs.Tables.{PairWords, HasTable, IsTable}
+use Rattle.eq_index.specs.Tables.{IsTable}
 use Rattle.lisp_heap.specs.LivingWords.{IsOfKind, RefersTo}
 use Rattle.lisp_heap.specs.View.{View, heap_of}
 use Rattle.lisp_heap.specs.WorldSound.{IsSound, view_of}
 use Rattle.lisp_heap.specs.declared.world.World.TheInside.{Inside}
-use Rattle.lisp_heap.proofs.Referring.{ObjectAt, object_known, object_of, slot_word}
+use Rattle.lisp_heap.proofs.Referring.{object_known, object_of, slot_word}
 use Rattle.lisp_heap.proofs.Soundness.{heap, well_formed}
 use Rattle.lisp_heap.proofs.TablePlans.{weak_contents, pointee_is, table_is}
-use Rattle.lisp_heap.proofs.TablesHere.{IsTableOf, table_contents, in_words, here}
+use Rattle.lisp_heap.proofs.TablesHere.{table_contents, in_words, here}
 
 -- ---- weak pointers
 

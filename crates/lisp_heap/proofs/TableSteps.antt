@@ -1,5 +1,5 @@
 -- A World after a command that changed one object, and nothing else but its thread's place.
-use Rattle.std.proofs.Common.{◌≡◌, ℕ, ◌+◌, ◌<◌, List, length, subst, ap, ◌∙◌, sym, refl, arith, Some, map}
+use Rattle.std.proofs.Common.{◌≡◌, ℕ, ◌+◌, ◌<◌, List, length, subst, ap, sym, refl, arith, Some}
 use Rattle.std.specs.Prelude.{slice_index_or}
 use Rattle.heap_terms.specs.declared.answers.Answer.{Answer}
 use Rattle.heap_terms.specs.declared.commands.Command.{Command}

@@ -1,20 +1,19 @@
 -- Tables in the words of a sound World: the words of their pairs, and what a change of them makes of the words.
-use Rattle.std.proofs.Common.{◌≡◌, ◌≢◌, ℕ, ◌+◌, ◌*◌, ◌/◌, ◌<◌, ◌≤◌, List, length, map, Option, Some, None, inl, inr, refl, sym, ◌∙◌, ap, subst, arith, get_or, true, false}
+use Rattle.std.proofs.Common.{◌≡◌, ◌≢◌, ℕ, ◌+◌, ◌*◌, ◌<◌, ◌≤◌, List, length, map, Option, Some, inl, inr, refl, sym, ◌∙◌, ap, subst, arith, true, false}
 use Rattle.std.proofs.lemmas.Bool.{cases_lt}
 use Rattle.std.proofs.lemmas.List.{get_or-map, length-map}
-use Rattle.std.proofs.lemmas.Option.{same_Some}
 use Rattle.std.specs.Prelude.{slice_index}
 use Rattle.heap_terms.specs.declared.cells.Value.{Value}
 use Rattle.heap_terms.specs.declared.cells.Value.TheVariants.{Unbound}
 use Rattle.heap_terms.specs.declared.kinds.Kind.TheVariants as kinds
 use Rattle.heap_terms.specs.declared.kinds.Weakness.{Weakness}
-use Rattle.heap_terms.specs.Heap.{NamedHeap, object_at, zero_value}
+use Rattle.heap_terms.specs.Heap.{object_at, zero_value}
 use Rattle.heap_terms.specs.Layout.{header_of, weakness_number, size_of}
 use Rattle.heap_terms.specs.Living.{HoldsLiving, IsShaped}
 use Rattle.heap_terms.specs.Objects.{Object, Contents, ConsOf, VectorOf, InstanceOf, ClosureOf, WordsOf, WeakTo, TableOf, kind_of, payload_of, words_of_object}
-use Rattle.heap_terms.specs.Pairs.{same_value, is_pair_of}
+use Rattle.heap_terms.specs.Pairs.{is_pair_of}
 use Rattle.heap_terms.specs.Slots.{Slot, Raw, Side, Kept, slot_at}
-use Rattle.heap_terms.specs.Stands.{StandsFor, SlotsStand, KeptStand}
+use Rattle.heap_terms.specs.Stands.{StandsFor, KeptStand}
 use Rattle.heap_terms.specs.WellFormed.{IsLiving}
 use Rattle.heap_terms.specs.Spelling.{word_of}
 use Rattle.heap_laws.proofs.AtPlaces.{IfSome-at, IfSome-from}

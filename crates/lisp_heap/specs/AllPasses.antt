@@ -30,7 +30,6 @@ pub record StandNow (h : Rooted) (b : NamedHeap) (n : ℕ) (words : List ℕ) (p
   pub program : Program
   pub formed : IsWellFormed program b
   pub regions : HasNoRegions b
-  pub no_finalizers : b.finalizers ≡ []
   pub pairs_few : pair_count b ≤ pair_count h.heap
   pub numbers : HasNumbers b (most_passes + n)
   pub few : length b.objects ≤ MOST_COMMANDS

@@ -23,4 +23,5 @@ pub mod ParcelSound
 pub mod Kept
 pub mod Counted
 pub mod AllPasses
+pub mod FinalizerPlan
 pub mod Recalling

@@ -140,22 +140,25 @@ impl World {
     {
         gather(&self.cells, &self.pins, &mut scratch.roots)?;
         let objects = self.commits as usize;
+        let queued = self.finalizers.len();
         let sizes = RecordSizes {
             moves: objects,
             pins: scratch.roots.ambiguous.len(),
             // Each event adds one pair at most.
             culls: self.history.len(),
             breaks: objects,
-            queued: 0,
+            queued: queued as usize,
             freed: self.pages.len() as usize,
         };
         let rooms = reserve_rooms(self.alloc, sizes)?;
+        scratch.room.reserve_queued(queued)?;
         let mut passes = Vec::with_capacity(self.alloc, MOST_PASSES)?;
         self.history.reserve(1)?;
         self.states.close_regions();
         make_passes(
             &mut self.space,
             &mut self.pages,
+            &mut self.finalizers,
             &mut self.labels,
             scratch,
             &mut self.stats,

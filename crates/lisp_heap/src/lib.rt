@@ -14,6 +14,7 @@ mod committing;
 mod counting;
 mod due;
 mod field_commands;
+mod finalizer_commands;
 mod inhibit_commands;
 mod kept;
 mod new_world;

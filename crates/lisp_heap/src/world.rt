@@ -364,6 +364,9 @@ impl World {
             Command::TablePut { c, k, v } => self.put_pair(t, c, k, v),
             Command::TableGet { d, c, k } => self.get_value(t, d, c, k),
             Command::TableRem { c, k } => self.remove_pair(t, c, k),
+            Command::Finalize { c, id } => self.finalized(t, command, c, id),
+            Command::Cancel { c } => self.cancelled(t, command, c),
+            Command::RunFinalizers => self.ran(t, command),
             // These allocate.
             Command::NewCons { .. }
             | Command::NewVector { .. }
@@ -372,10 +375,6 @@ impl World {
             | Command::NewWords { .. }
             | Command::NewWeak { .. }
             | Command::NewTable { .. } => unreachable!(),
-            // These are not built yet.
-            Command::Finalize { .. }
-            | Command::Cancel { .. }
-            | Command::RunFinalizers => unreachable!(),
         }
     }
 

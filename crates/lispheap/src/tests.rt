@@ -3,6 +3,7 @@
 ghost use Rattle.std.specs.Prelude.{◌≤◌};
 
 mod collections;
+mod finalizers;
 mod generations;
 mod threads;
 mod weakness;

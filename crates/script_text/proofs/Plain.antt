@@ -168,6 +168,9 @@ no_comment names.Page = refl
 no_comment names.Stat = refl
 no_comment names.Nogc = refl
 no_comment names.Gcok = refl
+no_comment names.Finalize = refl
+no_comment names.Cancel = refl
+no_comment names.Runfin = refl
 
 follows : (name : Name) → may_follow InThread (text_of_name name) ≡ true
 follows names.Fix = refl
@@ -201,6 +204,9 @@ follows names.Page = refl
 follows names.Stat = refl
 follows names.Nogc = refl
 follows names.Gcok = refl
+follows names.Finalize = refl
+follows names.Cancel = refl
+follows names.Runfin = refl
 
 -- how a command is judged behind a `thread` line
 word_judged : (word : List ℕ) (s : SoFar) (fs : List (List ℕ)) → eqb (slice_index word 0) 59 ≡ false → is_built word ≡ true → may_follow InThread word ≡ true → s.place ≡ InThread →

@@ -57,6 +57,9 @@ row_of names.Page = row (codes "page") (Wide ∷ []) (λ p. Does (commands.ShowP
 row_of names.Stat = row (codes "stat") (Number (at_most 6) ∷ []) (λ g. Does (commands.Stat g))
 row_of names.Nogc = row (codes "nogc") [] (Does commands.Inhibit)
 row_of names.Gcok = row (codes "gcok") [] (Does commands.Allow)
+row_of names.Finalize = row (codes "finalize") (LispCell ∷ Wide ∷ []) (λ c id. Does (commands.Finalize c id))
+row_of names.Cancel = row (codes "cancel") (LispCell ∷ []) (λ c. Does (commands.Cancel c))
+row_of names.Runfin = row (codes "runfin") [] (Does commands.RunFinalizers)
 
 statement_is : (name : Name) (threads : ℕ) (fs : List (List ℕ)) → statement_of threads (text_of_name name) fs ≡ said_by (row_of name) fs
 unfolding statement_of rows row_of
@@ -91,6 +94,9 @@ statement_is names.Page threads fs = refl
 statement_is names.Stat threads fs = refl
 statement_is names.Nogc threads fs = refl
 statement_is names.Gcok threads fs = refl
+statement_is names.Finalize threads fs = refl
+statement_is names.Cancel threads fs = refl
+statement_is names.Runfin threads fs = refl
 
 abbrev front_said : Row → List (List ℕ) → Result Statement Why
 front_said r fs = said_of r.forms r.says fs
@@ -152,6 +158,9 @@ front_is names.Page fs = one Wide commands.ShowPage fs
 front_is names.Stat fs = one (Number (at_most 6)) commands.Stat fs
 front_is names.Nogc fs = refl
 front_is names.Gcok fs = refl
+front_is names.Finalize fs = two LispCell Wide commands.Finalize fs
+front_is names.Cancel fs = one LispCell commands.Cancel fs
+front_is names.Runfin fs = refl
 
 count_is : (name : Name) → length (row_of name).forms ≡ field_count name
 unfolding row_of
@@ -186,6 +195,9 @@ count_is names.Page = refl
 count_is names.Stat = refl
 count_is names.Nogc = refl
 count_is names.Gcok = refl
+count_is names.Finalize = refl
+count_is names.Cancel = refl
+count_is names.Runfin = refl
 
 -- ---- counting the fields
 

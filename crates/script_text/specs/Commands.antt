@@ -100,6 +100,9 @@ front_command names.Page fs = in_first a_wide fs >>= λ p. Ok (commands.ShowPage
 front_command names.Stat fs = in_first (a_generation OLDEST_GENERATION) fs >>= λ g. Ok (commands.Stat g)
 front_command names.Nogc fs = Ok commands.Inhibit
 front_command names.Gcok fs = Ok commands.Allow
+front_command names.Finalize fs = in_first a_cell fs >>= λ c. in_first a_wide (but_first fs) >>= λ id. Ok (commands.Finalize c id)
+front_command names.Cancel fs = in_first a_cell fs >>= λ c. Ok (commands.Cancel c)
+front_command names.Runfin fs = Ok commands.RunFinalizers
 
 -- how many fields a command has after its word
 abbrev pub field_count : Name → ℕ
@@ -134,6 +137,9 @@ field_count names.Page = 1
 field_count names.Stat = 1
 field_count names.Nogc = 0
 field_count names.Gcok = 0
+field_count names.Finalize = 2
+field_count names.Cancel = 1
+field_count names.Runfin = 0
 
 abbrev pub does : Result Command Why → Result Statement Why
 does found = found >>= λ c. Ok (Does c)

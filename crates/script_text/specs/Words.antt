@@ -41,6 +41,9 @@ text_of_name names.Page = codes "page"
 text_of_name names.Stat = codes "stat"
 text_of_name names.Nogc = codes "nogc"
 text_of_name names.Gcok = codes "gcok"
+text_of_name names.Finalize = codes "finalize"
+text_of_name names.Cancel = codes "cancel"
+text_of_name names.Runfin = codes "runfin"
 
 abbrev pub text_of : Keyword → List ℕ
 text_of keywords.Lispheap = codes "lispheap"

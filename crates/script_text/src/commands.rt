@@ -18,14 +18,15 @@ impl Name {
         ensures { result ≡ field_count self }
     {
         match self {
-            Name::Unpin | Name::Nogc | Name::Gcok => 0,
+            Name::Unpin | Name::Nogc | Name::Gcok | Name::Runfin => 0,
             Name::Nil
             | Name::Show
             | Name::Pin
             | Name::TableCount
             | Name::Gc
             | Name::Page
-            | Name::Stat => 1,
+            | Name::Stat
+            | Name::Cancel => 1,
             Name::Fix
             | Name::Move
             | Name::Vector
@@ -37,7 +38,8 @@ impl Name {
             | Name::Raw
             | Name::Add
             | Name::WeakVal
-            | Name::TableRem => 2,
+            | Name::TableRem
+            | Name::Finalize => 2,
             Name::Cons
             | Name::Words
             | Name::Table
@@ -234,6 +236,16 @@ fn front(name: Name, left: &mut Cursor) -> Result<Command, Why>
         }
         Name::Nogc => Ok(Command::Inhibit),
         Name::Gcok => Ok(Command::Allow),
+        Name::Finalize => {
+            let c = left.cell()?;
+            let id = left.wide()?;
+            Ok(Command::Finalize { c, id })
+        }
+        Name::Cancel => {
+            let c = left.cell()?;
+            Ok(Command::Cancel { c })
+        }
+        Name::Runfin => Ok(Command::RunFinalizers),
     }
 }
 
@@ -452,7 +464,10 @@ fn plain_front(name: Name, rest: &[u8]) -> Option<(Command, &[u8])>
         | Name::Page
         | Name::Stat
         | Name::Nogc
-        | Name::Gcok => None,
+        | Name::Gcok
+        | Name::Finalize
+        | Name::Cancel
+        | Name::Runfin => None,
     }
 }
 

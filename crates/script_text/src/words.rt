@@ -41,6 +41,9 @@ pub(crate) enum Name {
     Stat,
     Nogc,
     Gcok,
+    Finalize,
+    Cancel,
+    Runfin,
 }
 
 /// The word of a line.
@@ -91,6 +94,9 @@ pub(crate) fn meaning_of(word: &[u8]) -> Option<Keyword>
         b"gc" => Some(Keyword::Command(Name::Gc)),
         b"nogc" => Some(Keyword::Command(Name::Nogc)),
         b"gcok" => Some(Keyword::Command(Name::Gcok)),
+        b"finalize" => Some(Keyword::Command(Name::Finalize)),
+        b"cancel" => Some(Keyword::Command(Name::Cancel)),
+        b"runfin" => Some(Keyword::Command(Name::Runfin)),
         b"schedule" => Some(Keyword::Schedule),
         b"thread" => Some(Keyword::Thread),
         b"end" => Some(Keyword::End),

@@ -59,7 +59,6 @@ IsStrong (WordsOf ws) = Unit {0}
 IsStrong (WeakTo v) = ⊥
 IsStrong (TableOf w b pairs) = ⊥
 
--- a heap without weak pointers, tables and finalizers
+-- a heap without weak pointers and tables
 pub record IsStrongHeap (a : NamedHeap) : Type 0 where
   pub objects : (name : ℕ) (o : Object) → object_at a.objects name ≡ Some o → IsStrong o.contents
-  pub finalizers : a.finalizers ≡ []

@@ -5,7 +5,7 @@ use Rattle.std.proofs.lemmas.List.{get_or_past}
 use Rattle.std.proofs.lemmas.Option.{slice_get_within, get_or_from_slice_get, none-some}
 use Rattle.std.specs.Prelude.{slice_get}
 use Rattle.heap_terms.specs.declared.commands.Command.{Command}
-use Rattle.heap_terms.specs.declared.commands.Command.TheVariants.{Fix, MakeNil, Move, NewCons, NewVector, NewInstance, NewClosure, NewWords, NewWeak, NewTable, Get, Put, RawGet, RawPut, Same, Show, Addr, SetRaw, AddRaw, Pin, Unpin, WeakVal, TablePut, TableGet, TableRem, TableCount, Collect, Inhibit, Allow, ShowPage, Stat}
+use Rattle.heap_terms.specs.declared.commands.Command.TheVariants.{Fix, MakeNil, Move, NewCons, NewVector, NewInstance, NewClosure, NewWords, NewWeak, NewTable, Get, Put, RawGet, RawPut, Same, Show, Addr, SetRaw, AddRaw, Pin, Unpin, WeakVal, TablePut, TableGet, TableRem, TableCount, Collect, Inhibit, Allow, ShowPage, Stat, Finalize, Cancel, RunFinalizers}
 use Rattle.heap_terms.specs.declared.programs.Program.{Program}
 use Rattle.heap_terms.specs.Histories.{script_of}
 use Rattle.heap_terms.specs.Valid.{IsValid, IsCommand, name_of, is_built}
@@ -60,6 +60,9 @@ IsBuilt Inhibit = Unit {0}
 IsBuilt Allow = Unit {0}
 IsBuilt (ShowPage p) = Unit {0}
 IsBuilt (Stat g) = Unit {0}
+IsBuilt (Finalize c id) = Unit {0}
+IsBuilt (Cancel c) = Unit {0}
+IsBuilt RunFinalizers = Unit {0}
 IsBuilt _ = ⊥
 
 -- no other command's word is read
@@ -95,6 +98,9 @@ IsBuilt-from_word Inhibit e = tt
 IsBuilt-from_word Allow e = tt
 IsBuilt-from_word (ShowPage p) e = tt
 IsBuilt-from_word (Stat g) e = tt
+IsBuilt-from_word (Finalize c id) e = tt
+IsBuilt-from_word (Cancel c) e = tt
+IsBuilt-from_word RunFinalizers e = tt
 IsBuilt-from_word _ e = false≢true e
 
 -- a command of a valid program's scripts is built

@@ -1,10 +1,7 @@
 -- One round more, and the last one.
-use Rattle.std.proofs.Common.{◌≡◌, ◌∙◌, length, arith}
 use Rattle.copy_space.specs.State.{state}
-use Rattle.scavenge.specs.Fields.{IsSameCopier}
 use Rattle.scavenge.proofs.Frames.{same-on}
-use Rattle.scavenge.proofs.QueueLaws.{moves-most}
-use Rattle.collect_pass.proofs.SettlingLoop.{IsRound, first-can, first-round, last-noting, last-scans, last-settled, moves-grow, next-round, round-can, round-ready}
+use Rattle.collect_pass.proofs.SettlingLoop.{first-round, last-noting, last-scans, last-settled, next-round, round-can, round-ready}
 use Rattle.collect_pass.proofs.tracing.settle_all.Goals as goal
 
 pub loop-done-init : goal.loop-done-init

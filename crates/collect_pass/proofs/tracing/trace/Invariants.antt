@@ -17,3 +17,6 @@ ghost-cull g a = g.h.heap
 
 abbrev pub ghost-break_dead : goal.ghost-break_dead
 ghost-break_dead g a = g.h.heap
+
+abbrev pub ghost-sweep : goal.ghost-sweep
+ghost-sweep g a = g.h.heap

@@ -4,7 +4,10 @@ use Rattle.std.proofs.lemmas.List.Elements.{All-pop}
 use Rattle.std.proofs.lemmas.List.{length_push}
 use Rattle.std.specs.Option.{option_to_list}
 use Rattle.std.specs.Prelude.{IfSome}
-use Rattle.collect_pass.specs.Pass.{IsReservedFor}
+use Rattle.collect_pass.specs.Pass.{CanQueue, IsReservedFor}
+use Rattle.finalizers.specs.Standing.{FinalizersStand}
+use Rattle.generation_policy.proofs.Loops.{after_one_more}
+use Rattle.heap_terms.specs.Heap.{NamedHeap}
 use Rattle.copy_space.specs.declared.notes.Pass.{Pass}
 use Rattle.generation_policy.specs.Plan.{pass_over}
 use Rattle.heap_terms.specs.declared.events.PassRecord.{PassRecord}
@@ -12,6 +15,7 @@ use Rattle.heap_terms.specs.Collections.{after_passes}
 use Rattle.lisp_heap.specs.AllPasses.{IsNextPass, IsPlanned, Stand}
 use Rattle.lisp_heap.specs.Recording.{HasRoom, sizes_of}
 use Rattle.lisp_heap.specs.declared.recording.RecordRoom.{RecordRoom}
+use Rattle.lisp_heap.proofs.FinalizersKept.{registered_long}
 use Rattle.lisp_heap.proofs.RecordSizing.{room_within}
 use Rattle.lisp_heap.proofs.PassesSoFar.{planned_more, stand_more, stand_now}
 use Rattle.lisp_heap.proofs.all_passes.make_passes.Goals as goal
@@ -31,9 +35,12 @@ loop-planned-init g c =
       room_pages = refl;
       room_ambiguous = refl;
       room_weak = refl;
+      finalizers = subst (λ (rs : List PassRecord). FinalizersStand (after_passes g.h.heap c.args.last 0 rs) c.args.finalizers.now) (sym none) c.requires.1.1.1.1.1.1.stand;
+      fewer = omega arith;
+      room_queued = refl;
       rooms = c.requires.1.1.0;
       left = omega (arith, c.requires.1.1.1.0, c.args.passes.now.ok, ap (λ (rs : List PassRecord). length rs) none);
-      capacity = c.requires.1.1.1.1.1;
+      capacity = c.requires.1.1.1.1.1.0;
     }
 
 pub unwrap-room-requires : goal.unwrap-room-requires
@@ -58,17 +65,21 @@ make_next-planned-requires g c =
       enough = omega (arith, c.requires.1.0.enough, inv.room_ambiguous, same);
       weak_enough = omega (arith, c.requires.1.0.weak_enough, inv.room_weak, inv.stand.objects_long);
     } in
+    let reserved_queue = c.requires.1.1.1.1.1.1.reserved in
+    let queue : CanQueue b l.finalizers l.scratch.room = record { stand = inv.finalizers; reserved = omega (arith, reserved_queue, inv.room_queued, inv.fewer) } in
+    let registered = registered_long b l.finalizers inv.finalizers in
+    let registered_first = registered_long g.h.heap c.args.finalizers.now c.requires.1.1.1.1.1.1.stand in
     let room : HasRoom c.unwrap-room.result (sizes_of b (length l.scratch.roots.ambiguous.items)) =
     room_within c.unwrap-room.result (sizes_of b (length l.scratch.roots.ambiguous.items)) sizes fits (record {
       moves = omega (arith, inv.stand.objects_long);
       pins = omega (arith, same);
       culls = inv.stand.pairs_few;
       breaks = omega (arith, inv.stand.objects_long);
-      queued = (let none = ap (λ (xs : List (ℕ × ℕ)). length xs) inv.stand.no_finalizers in omega (arith, none));
+      queued = omega (arith, registered, registered_first, inv.fewer);
       freed = omega (arith, inv.stand.pages_long);
     }) in (
       stand_now g.h c.args.last l.passes.items l.space l.pages l.labels l.scratch.roots.exact.items l.scratch.roots.ambiguous.items l.stats inv.stand,
-      (plan.1, (reserved, (room, omega (arith, inv.capacity, plan.1.low, l.passes.ok)))),
+      (plan.1, (reserved, (room, (omega (arith, inv.capacity, plan.1.low, l.passes.ok), queue)))),
     )
 
 pub loop-planned-preserved : goal.loop-planned-preserved
@@ -92,6 +103,10 @@ loop-planned-preserved g c =
       room_pages = made.ensures.room_pages ∙ inv.room_pages;
       room_ambiguous = made.ensures.room_ambiguous ∙ inv.room_ambiguous;
       room_weak = made.ensures.room_weak ∙ inv.room_weak;
+      finalizers = subst (λ (rs : List PassRecord). FinalizersStand (after_passes g.h.heap c.args.last 0 rs) made.new.finalizers) (sym step.1)
+          (subst (λ (x : NamedHeap). FinalizersStand x made.new.finalizers) (sym (after_one_more g.h.heap c.args.last 0 (length l.passes.items) l.passes.items step.0 (omega arith))) step.3);
+      fewer = omega (arith, made.ensures.fewer, inv.fewer);
+      room_queued = made.ensures.room_queued ∙ inv.room_queued;
       rooms = (All-pop (λ (room : RecordRoom). HasRoom room (sizes_of g.h.heap (length c.args.scratch.now.roots.ambiguous.items)))
           l.rooms.items c.pop.new.self.items c.pop.result c.pop.ensures.items inv.rooms).0;
       left = omega (arith, made.ensures.count, inv.left, one_less, l.rooms.ok.0, c.pop.new.self.ok.0);

@@ -1,5 +1,5 @@
 -- `tcount` reads how many pairs a table has.
-use Rattle.std.proofs.Common.{ℕ, subst, sym, ◌∙◌, map, length}
+use Rattle.std.proofs.Common.{subst, sym, ◌∙◌, map}
 use Rattle.std.proofs.lemmas.List.{length-map}
 use Rattle.heap_terms.specs.declared.commands.Command.TheVariants as commands
 use Rattle.heap_terms.specs.Cells.{cell_value}

@@ -1,5 +1,5 @@
 -- `weakval` reads what a weak pointer points to.
-use Rattle.std.proofs.Common.{◌≡◌, ℕ, arith, subst, sym, ◌∙◌, Some}
+use Rattle.std.proofs.Common.{◌≡◌, arith, subst, sym, ◌∙◌, Some}
 use Rattle.heap_terms.specs.declared.cells.Value.{Value}
 use Rattle.heap_terms.specs.declared.commands.Command.TheVariants as commands
 use Rattle.heap_terms.specs.Cells.{cell_value}
