@@ -3,7 +3,7 @@
 ghost use Rattle.heap_laws.specs.Laws.{ValidAreLimited, EventsKeepHeaps, HeapsAreWellFormed, HeapsAreSmall, FinalizersAreFew, NumbersStaySmall};
 
 /// A valid program is within the limits that the laws of heaps and histories ask for. These speak of
-/// all commands, those that are not built yet too.
+/// all commands.
 pub fn valid_programs_are_limited()
     ensures { ValidAreLimited }
 {}

@@ -48,7 +48,7 @@ use Rattle.heap_laws.proofs.Events.Causes.{by_events}
 use Rattle.heap_laws.proofs.WellFormed.LivingValues.{cell_living, fields_living}
 use Rattle.heap_laws.proofs.Events.OwnThread.{built_heap}
 use Rattle.heap_laws.proofs.Programs.Limits.{limited}
-use Rattle.heap_laws.proofs.Programs.BuiltCommands.{IsBuilt, script_built, script_command}
+use Rattle.heap_laws.proofs.Programs.ScriptCommands.{script_command}
 use Rattle.heap_laws.proofs.Termination.EventsLeft.{history_few}
 use Rattle.heap_laws.proofs.WellFormed.PagesStay.{needs_least, size_least}
 
@@ -86,72 +86,71 @@ queue_plain [] some below = absurd (false≢true (sym some))
 queue_plain (id ∷ ids) some below = ids_plain (id ∷ ids) below
 
 pub answer_plain : (p : Program) (a : NamedHeap) (t : ℕ) (c : Command) → IsWellFormed p a → t < length p.threads → length a.objects ≤ MOST_COMMANDS →
-    HasNumbers a most_passes → p.pages ≤ MOST_PAGES → length a.finalizers < 2 ^ 64 → IsBuilt c → IsInRange c → IsPlainAnswer (outcome_of a t c).answer
+    HasNumbers a most_passes → p.pages ≤ MOST_PAGES → length a.finalizers < 2 ^ 64 → IsInRange c → IsPlainAnswer (outcome_of a t c).answer
 unfolding outcome_of
-answer_plain p a t (Fix d n) w l few numbers pages fin built r = tt
-answer_plain p a t (MakeNil d) w l few numbers pages fin built r = tt
-answer_plain p a t (Move d c) w l few numbers pages fin built r = tt
-answer_plain p a t (NewCons d x y) w l few numbers pages fin built r = tt
-answer_plain p a t (NewVector d n) w l few numbers pages fin built r = tt
-answer_plain p a t (NewInstance d n) w l few numbers pages fin built r = tt
-answer_plain p a t (NewClosure d n) w l few numbers pages fin built r = tt
-answer_plain p a t (NewWords d n v) w l few numbers pages fin built r = tt
-answer_plain p a t (NewWeak d x) w l few numbers pages fin built r = tt
-answer_plain p a t (NewTable d x b) w l few numbers pages fin built r = tt
-answer_plain p a t (Get d x i) w l few numbers pages fin built r = needing_cases (λ (o : Outcome). IsPlainAnswer o.answer) (fields_at a.objects (cell_value a t x)) a _ tt (λ vs e.
+answer_plain p a t (Fix d n) w l few numbers pages fin r = tt
+answer_plain p a t (MakeNil d) w l few numbers pages fin r = tt
+answer_plain p a t (Move d c) w l few numbers pages fin r = tt
+answer_plain p a t (NewCons d x y) w l few numbers pages fin r = tt
+answer_plain p a t (NewVector d n) w l few numbers pages fin r = tt
+answer_plain p a t (NewInstance d n) w l few numbers pages fin r = tt
+answer_plain p a t (NewClosure d n) w l few numbers pages fin r = tt
+answer_plain p a t (NewWords d n v) w l few numbers pages fin r = tt
+answer_plain p a t (NewWeak d x) w l few numbers pages fin r = tt
+answer_plain p a t (NewTable d x b) w l few numbers pages fin r = tt
+answer_plain p a t (Get d x i) w l few numbers pages fin r = needing_cases (λ (o : Outcome). IsPlainAnswer o.answer) (fields_at a.objects (cell_value a t x)) a _ tt (λ vs e.
     indexing_cases (λ (o : Outcome). IsPlainAnswer o.answer) vs i zero_value a (λ v. answering (answers.Val v) (with_cell a t d v)) tt (λ below.
     let f = fields_refer a.objects (cell_value a t x) vs e in
     let holds : HoldsLiving a.objects f.0 = subst (λ (k : Contents). HoldsLiving a.objects k) f.1.holds (w.sound.objects f.1.name f.1.object f.1.there).contents in
     living_plain a.objects (slice_index_or vs i zero_value) few (fields_living a.objects f.0 vs f.2 holds i)))
-answer_plain p a t (Put x i b) w l few numbers pages fin built r = needing_cases (λ (o : Outcome). IsPlainAnswer o.answer) (fields_at a.objects (cell_value a t x)) a _ tt (λ vs e.
+answer_plain p a t (Put x i b) w l few numbers pages fin r = needing_cases (λ (o : Outcome). IsPlainAnswer o.answer) (fields_at a.objects (cell_value a t x)) a _ tt (λ vs e.
     indexing_cases (λ (o : Outcome). IsPlainAnswer o.answer) vs i zero_value a
     (λ _. done (record a { objects = with_field_at a.objects (cell_value a t x) i (cell_value a t b) })) tt (λ below. tt))
-answer_plain p a t (RawGet d x i) w l few numbers pages fin built r = needing_cases (λ (o : Outcome). IsPlainAnswer o.answer) (raws_at a.objects (cell_value a t x)) a _ tt (λ ws e.
+answer_plain p a t (RawGet d x i) w l few numbers pages fin r = needing_cases (λ (o : Outcome). IsPlainAnswer o.answer) (raws_at a.objects (cell_value a t x)) a _ tt (λ ws e.
     indexing_cases (λ (o : Outcome). IsPlainAnswer o.answer) ws i 0 a (λ word. taking a t d word) tt (λ below.
     let f = raws_refer a.objects (cell_value a t x) ws e in
     let shape : IsShaped (WordsOf ws) = subst (λ (k : Contents). IsShaped k) f.holds (w.sound.objects f.name f.object f.there).shape in
     shape.1 i))
-answer_plain p a t (RawPut x i b) w l few numbers pages fin built r = needing_cases (λ (o : Outcome). IsPlainAnswer o.answer) (raws_at a.objects (cell_value a t x)) a _ tt (λ ws e.
+answer_plain p a t (RawPut x i b) w l few numbers pages fin r = needing_cases (λ (o : Outcome). IsPlainAnswer o.answer) (raws_at a.objects (cell_value a t x)) a _ tt (λ ws e.
     indexing_cases (λ (o : Outcome). IsPlainAnswer o.answer) ws i 0 a
     (λ _. done (record a { objects = changed_at a.objects (cell_value a t x) (λ k. with_raws k (set ws i (raw_value a t b))) })) tt (λ below. tt))
-answer_plain p a t (Same x y) w l few numbers pages fin built r = by_test IsPlainAnswer (same_value (cell_value a t x) (cell_value a t y)) answers.Yes answers.No (λ e. tt) (λ e. tt)
-answer_plain p a t (Show x) w l few numbers pages fin built r = living_plain a.objects (cell_value a t x) few (cell_living p a t x w l)
-answer_plain p a t (Addr d x) w l few numbers pages fin built r = word_below a (cell_value a t x) w.sound (omega (arith, w.pages_length, pages)) (cell_living p a t x w l)
-answer_plain p a t (SetRaw d v) w l few numbers pages fin built r = tt
-answer_plain p a t (AddRaw d k) w l few numbers pages fin built r = word_plus-below (raw_value a t d) k
-answer_plain p a t (Pin x) w l few numbers pages fin built r = by_test (λ (o : Outcome). IsPlainAnswer o.answer) (nat_lt (length (thread_at a t).pins) MOST_PINS) _ _ (λ e. tt) (λ e. tt)
-answer_plain p a t Unpin w l few numbers pages fin built r = by_test (λ (o : Outcome). IsPlainAnswer o.answer) (length (thread_at a t).pins == 0) _ _ (λ e. tt) (λ e. tt)
-answer_plain p a t (WeakVal d x) w l few numbers pages fin built r = needing_cases (λ (o : Outcome). IsPlainAnswer o.answer) (pointee_at a.objects (cell_value a t x)) a _ tt (λ v e.
+answer_plain p a t (Same x y) w l few numbers pages fin r = by_test IsPlainAnswer (same_value (cell_value a t x) (cell_value a t y)) answers.Yes answers.No (λ e. tt) (λ e. tt)
+answer_plain p a t (Show x) w l few numbers pages fin r = living_plain a.objects (cell_value a t x) few (cell_living p a t x w l)
+answer_plain p a t (Addr d x) w l few numbers pages fin r = word_below a (cell_value a t x) w.sound (omega (arith, w.pages_length, pages)) (cell_living p a t x w l)
+answer_plain p a t (SetRaw d v) w l few numbers pages fin r = tt
+answer_plain p a t (AddRaw d k) w l few numbers pages fin r = word_plus-below (raw_value a t d) k
+answer_plain p a t (Pin x) w l few numbers pages fin r = by_test (λ (o : Outcome). IsPlainAnswer o.answer) (nat_lt (length (thread_at a t).pins) MOST_PINS) _ _ (λ e. tt) (λ e. tt)
+answer_plain p a t Unpin w l few numbers pages fin r = by_test (λ (o : Outcome). IsPlainAnswer o.answer) (length (thread_at a t).pins == 0) _ _ (λ e. tt) (λ e. tt)
+answer_plain p a t (WeakVal d x) w l few numbers pages fin r = needing_cases (λ (o : Outcome). IsPlainAnswer o.answer) (pointee_at a.objects (cell_value a t x)) a _ tt (λ v e.
     let f = pointee_refers a.objects (cell_value a t x) v e in
     let holds : HoldsLiving a.objects (WeakTo v) = subst (λ (k : Contents). HoldsLiving a.objects k) f.holds (w.sound.objects f.name f.object f.there).contents in
     weak_plain a t d v few holds)
-answer_plain p a t (TablePut x k v) w l few numbers pages fin built r = needing_cases (λ (o : Outcome). IsPlainAnswer o.answer) (table_at a.objects (cell_value a t x)) a _ tt (λ table e.
+answer_plain p a t (TablePut x k v) w l few numbers pages fin r = needing_cases (λ (o : Outcome). IsPlainAnswer o.answer) (table_at a.objects (cell_value a t x)) a _ tt (λ table e.
     by_test (λ (o : Outcome). IsPlainAnswer o.answer) (has_key table.pairs (cell_value a t k) || nat_lt (length table.pairs) table.capacity) _ _ (λ e. tt) (λ e. tt))
-answer_plain p a t (TableGet d x k) w l few numbers pages fin built r = needing_cases (λ (o : Outcome). IsPlainAnswer o.answer) (table_at a.objects (cell_value a t x)) a _ tt (λ table e.
+answer_plain p a t (TableGet d x k) w l few numbers pages fin r = needing_cases (λ (o : Outcome). IsPlainAnswer o.answer) (table_at a.objects (cell_value a t x)) a _ tt (λ table e.
     let f = table_refers a.objects (cell_value a t x) table e in
     let holds : HoldsLiving a.objects (TableOf table.weakness table.capacity table.pairs) = subst (λ (k : Contents). HoldsLiving a.objects k) f.holds (w.sound.objects f.name f.object f.there).contents in
     found_plain a t d (value_at table.pairs (cell_value a t k)) few (λ v found. value_at-living a.objects table.pairs (cell_value a t k) v (pairs_all a.objects table.pairs holds) found))
-answer_plain p a t (TableRem x k) w l few numbers pages fin built r = needing_cases (λ (o : Outcome). IsPlainAnswer o.answer) (table_at a.objects (cell_value a t x)) a _ tt (λ table e.
+answer_plain p a t (TableRem x k) w l few numbers pages fin r = needing_cases (λ (o : Outcome). IsPlainAnswer o.answer) (table_at a.objects (cell_value a t x)) a _ tt (λ table e.
     by_test (λ (o : Outcome). IsPlainAnswer o.answer) (has_key table.pairs (cell_value a t k)) _ _ (λ e. tt) (λ e. tt))
-answer_plain p a t (TableCount x) w l few numbers pages fin built r = needing_cases (λ (o : Outcome). IsPlainAnswer o.answer) (table_at a.objects (cell_value a t x)) a _ tt (λ table e.
+answer_plain p a t (TableCount x) w l few numbers pages fin r = needing_cases (λ (o : Outcome). IsPlainAnswer o.answer) (table_at a.objects (cell_value a t x)) a _ tt (λ table e.
     let f = table_refers a.objects (cell_value a t x) table e in
     let shape : IsShaped (TableOf table.weakness table.capacity table.pairs) = subst (λ (k : Contents). IsShaped k) f.holds (w.sound.objects f.name f.object f.there).shape in
     omega (arith, shape.1, shape.2))
-answer_plain p a t (Collect g) w l few numbers pages fin built r = tt
-answer_plain p a t Inhibit w l few numbers pages fin built r = tt
-answer_plain p a t Allow w l few numbers pages fin built r = by_test (λ (o : Outcome). IsPlainAnswer o.answer) ((thread_at a t).inhibits == 0) _ _ (λ e. tt) (λ e. tt)
-answer_plain p a t (ShowPage q) w l few numbers pages fin built r = by_test (λ (o : Outcome). IsPlainAnswer o.answer) (nat_lt q (length a.pages)) _ _
+answer_plain p a t (Collect g) w l few numbers pages fin r = tt
+answer_plain p a t Inhibit w l few numbers pages fin r = tt
+answer_plain p a t Allow w l few numbers pages fin r = by_test (λ (o : Outcome). IsPlainAnswer o.answer) ((thread_at a t).inhibits == 0) _ _ (λ e. tt) (λ e. tt)
+answer_plain p a t (ShowPage q) w l few numbers pages fin r = by_test (λ (o : Outcome). IsPlainAnswer o.answer) (nat_lt q (length a.pages)) _ _
     (λ e. view_plain p a q w few pages (ltb-true q (length a.pages) e)) (λ e. tt)
-answer_plain p a t (Stat g) w l few numbers pages fin built r = (
+answer_plain p a t (Stat g) w l few numbers pages fin r = (
   (let most = numbers.words g in omega arith),
   (let most = numbers.cum g in omega arith),
   (let most = numbers.num g in omega arith),
 )
-answer_plain p a t (Finalize x id) w l few numbers pages fin built r = needing_cases (λ (o : Outcome). IsPlainAnswer o.answer) (name_in (cell_value a t x)) a _ tt (λ name e. tt)
-answer_plain p a t (Cancel x) w l few numbers pages fin built r = needing_cases (λ (o : Outcome). IsPlainAnswer o.answer) (name_in (cell_value a t x)) a _ tt
+answer_plain p a t (Finalize x id) w l few numbers pages fin r = needing_cases (λ (o : Outcome). IsPlainAnswer o.answer) (name_in (cell_value a t x)) a _ tt (λ name e. tt)
+answer_plain p a t (Cancel x) w l few numbers pages fin r = needing_cases (λ (o : Outcome). IsPlainAnswer o.answer) (name_in (cell_value a t x)) a _ tt
     (λ name e. (let most = count_by-le-length (λ (entry : ℕ × ℕ). entry.0 == name) a.finalizers in omega arith))
-answer_plain p a t RunFinalizers w l few numbers pages fin built r = by_test (λ (o : Outcome). IsPlainAnswer o.answer) (length a.queue == 0) _ _ (λ e. tt) (λ e. queue_plain a.queue e w.sound.queue)
-answer_plain p a t _ w l few numbers pages fin built r = absurd built
+answer_plain p a t RunFinalizers w l few numbers pages fin r = by_test (λ (o : Outcome). IsPlainAnswer o.answer) (length a.queue == 0) _ _ (λ e. tt) (λ e. queue_plain a.queue e w.sound.queue)
 
 -- where a new object lies in the heap after its commit
 built_inside : (p : Program) (a b : NamedHeap) (t : ℕ) (c : Command) (kind : Kind) (n : ℕ) → IsWellFormed p b →
@@ -182,7 +181,7 @@ event_plain p a e valid h fin next =
     (λ t c answer d later l. (
       omega arith,
       script_command p t (thread_at a t).done c valid d.command,
-      rw d.answered (answer_plain p a t c w l few (numbers-few p a valid h) pages fin (script_built p t (thread_at a t).done c valid d.command) (script_command p t (thread_at a t).done c valid d.command).in_range),
+      rw d.answered (answer_plain p a t c w l few (numbers-few p a valid h) pages fin (script_command p t (thread_at a t).done c valid d.command).in_range),
     ))
     (λ t c answer d later l. (omega arith, script_command p t (thread_at a t).done c valid d.command, rw d.answered tt))
     (λ t c answer kind n seed d later l. (
