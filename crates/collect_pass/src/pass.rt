@@ -50,6 +50,7 @@ pub fn run_pass(
     ensures ambiguous { roots.new.ambiguous.items ≡ roots.old.ambiguous.items }
     ensures room_pages { room.new.pages ≡ room.old.pages }
     ensures room_ambiguous { room.new.ambiguous ≡ room.old.ambiguous }
+    ensures room_weak { room.new.weak ≡ room.old.weak }
 {
     clear_notes(&mut room.notes);
     let ambiguous = roots.ambiguous.as_slice();
@@ -70,6 +71,8 @@ pub fn run_pass(
         pass,
         exact,
         &mut room.notes,
+        &mut room.weak,
+        &mut room.waiting,
     );
     let target = target_of(pass);
     let traced = Traced {
@@ -83,4 +86,5 @@ pub fn run_pass(
     finish_notes(&mut room.notes, &room.pins, pass, target, count);
     clear_marks(&mut room.marks, &room.pins, room.notes.moves.as_slice());
     room.pins.clear();
+    room.weak.clear();
 }

@@ -1,7 +1,7 @@
 -- What a World's fields stand for after a collection.
-use Rattle.std.proofs.Common.{◌≡◌, ℕ, ◌+◌, ◌*◌, ◌<◌, ◌≤◌, List, [], ◌∷◌, length, map, refl, sym, ◌∙◌, ap, arith, get_or, option_map, None, inl, inr}
+use Rattle.std.proofs.Common.{◌≡◌, ℕ, ◌+◌, ◌*◌, ◌<◌, ◌≤◌, List, [], ◌∷◌, ◌++◌, length, map, filter, not, refl, sym, ◌∙◌, ap, arith, get_or, option_map, None, inl, inr}
 use Rattle.std.proofs.lemmas.Bool.{cases_eq}
-use Rattle.std.proofs.lemmas.List.{length-append, length-drop, length-map, length-take-le, get_or-map, get_or-take, get_or-drop, get_or_append_left, get_or-append-add}
+use Rattle.std.proofs.lemmas.List.{append-nil, length-append, length-drop, length-map, length-take-le, get_or-map, get_or-take, get_or-drop, get_or_append_left, get_or-append-add}
 use Rattle.std.specs.Prelude.{flat_map}
 use Rattle.heap_terms.specs.declared.cells.Value.{Value}
 use Rattle.heap_terms.specs.declared.events.Event.TheVariants.{Collected}
@@ -12,7 +12,7 @@ use Rattle.heap_terms.specs.declared.programs.Program.{Program}
 use Rattle.heap_terms.specs.Collections.{ArePasses, IsPassOf, after_pass_of, after_passes, closed, closed_thread, collected}
 use Rattle.heap_terms.specs.Heap.{NamedHeap, Thread, thread_at, zero_value}
 use Rattle.heap_terms.specs.Histories.{IsNext, after, next}
-use Rattle.heap_terms.specs.Passes.{after_pass}
+use Rattle.heap_terms.specs.Passes.{after_pass, remains}
 use Rattle.heap_terms.specs.Policy.{is_raised, target_of}
 use Rattle.heap_terms.specs.Spelling.{word_of}
 use Rattle.heap_terms.specs.WellFormed.{IsWellFormed}
@@ -31,6 +31,7 @@ use Rattle.lisp_heap.specs.Standing.{CellsStand, Holds, LabelsStand, pins_of}
 use Rattle.lisp_heap.specs.State.{fresh_state, state_closed, state_of, with_owed}
 use Rattle.lisp_heap.specs.declared.states.ThreadState.{ThreadState}
 use Rattle.lisp_heap.proofs.Closing.{Holds-closed, closed_wf, exact_each}
+use Rattle.lisp_heap.proofs.FinalizersKept.{FinalizersStand-none}
 use Rattle.lisp_heap.proofs.FlatCells.{HaveEach, flat_at, flat_long}
 use Rattle.lisp_heap.proofs.PerformLemmas.{Holds-thread}
 use Rattle.lisp_heap.proofs.Pinned.{ambiguous_stays, stack_word}
@@ -123,6 +124,23 @@ passes-triggered : (b : NamedHeap) (last g : ℕ) (records : List PassRecord) �
 passes-triggered b last g [] = refl
 passes-triggered b last g (r ∷ rest) = passes-triggered (after_pass_of b last g r) last (g + 1) rest ∙ after_pass-triggered b r
 
+-- a heap without finalizers has none after its passes, and queues nothing
+after_pass-finalizers : (b : NamedHeap) (r : PassRecord) → b.finalizers ≡ [] → (after_pass b r).finalizers ≡ []
+unfolding after_pass
+after_pass-finalizers b r none = ap (filter (λ (entry : ℕ × ℕ). remains b r entry.0)) none
+
+after_pass-queue : (b : NamedHeap) (r : PassRecord) → b.finalizers ≡ [] → (after_pass b r).queue ≡ b.queue
+unfolding after_pass
+after_pass-queue b r none =
+    ap (λ (list : List (ℕ × ℕ)). b.queue ++ map (λ entry. entry.1) (filter (λ entry. not (remains b r entry.0)) list)) none ∙ append-nil b.queue
+
+passes-finalizers : (b : NamedHeap) (last g : ℕ) (records : List PassRecord) → b.finalizers ≡ [] →
+    ((after_passes b last g records).finalizers ≡ []) × ((after_passes b last g records).queue ≡ b.queue)
+passes-finalizers b last g [] none = (none, refl)
+passes-finalizers b last g (r ∷ rest) none =
+    let more = passes-finalizers (after_pass_of b last g r) last (g + 1) rest (after_pass-finalizers b r none) in
+    (more.0, more.1 ∙ after_pass-queue b r none)
+
 -- ---- the words of the cells s
 
 thread_after : (b : NamedHeap) (last g : ℕ) (r : PassRecord) (u : ℕ) → thread_at (after_pass_of b last g r) u ≡ thread_at b u
@@ -160,7 +178,7 @@ module _ (p : Program) (a : NamedHeap) (v : Parts) (wf : IsWellFormed p a) (h : 
     (are : ArePasses (closed a) last 0 records) (words : List ℕ) (pages : List Entry) (labels exact : List ℕ) (stats : GenStats)
     (stands : StandFor (record { heap = after_passes (closed a) last 0 records; values = root_values (closed a) }) words pages exact (ambiguous_roots v.cells v.pins))
     (named : LabelsStand (after_passes (closed a) last 0 records) labels) (numbers : StatsStand (after_passes (closed a) last 0 records) stats)
-    (long : length (after_passes (closed a) last 0 records).objects ≡ length (closed a).objects) where
+    (long : length (after_passes (closed a) last 0 records).objects ≡ length (closed a).objects) (none : a.finalizers ≡ []) where
   abbrev b : NamedHeap
   b = closed a
 
@@ -185,6 +203,7 @@ module _ (p : Program) (a : NamedHeap) (v : Parts) (wf : IsWellFormed p a) (h : 
     stats = stats;
     counted = v.counted;
     triggered = v.triggered;
+    finalizers = v.finalizers;
   }
 
   cells_passed : CellsStand c (with_exact_words v.cells exact)
@@ -203,6 +222,7 @@ module _ (p : Program) (a : NamedHeap) (v : Parts) (wf : IsWellFormed p a) (h : 
     stats = numbers;
     counted = holds_b.counted ∙ sym (passes-counted b last 0 records);
     triggered = holds_b.triggered ∙ sym (passes-triggered b last 0 records);
+    finalizers = (let kept = passes-finalizers b last 0 records none in FinalizersStand-none b c v.finalizers none kept.0 kept.1 holds_b.finalizers);
   }
 
   -- the fields after the collection

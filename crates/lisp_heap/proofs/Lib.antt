@@ -5,6 +5,7 @@ pub mod SlotChanges
 pub mod PutLemmas
 pub mod CommitLemmas
 pub mod Unchanged
+pub mod FinalizersKept
 pub mod PerformLemmas
 pub mod Soundness
 pub mod WordReading
@@ -32,7 +33,9 @@ pub mod Starting
 pub mod Ending
 pub mod Leasing
 pub mod Relabelling
-pub mod StrongHeaps
+pub mod NoFinalizers
+pub mod RecordSizing
+pub mod WeakNoted
 pub mod Recorded
 pub mod FlatCells
 pub mod ExactRoots
@@ -51,6 +54,8 @@ pub mod KeptThere
 pub mod CountedThere
 pub mod NextPass
 pub mod PassesSoFar
+mod ReopenedRegions
+mod ParcelLists
 pub mod TableSlots
 pub mod KeyedPairs
 pub mod ObjectChanges

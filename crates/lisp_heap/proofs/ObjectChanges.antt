@@ -1,10 +1,11 @@
 -- An object comes to hold something else of its kind and size: only its own words change, and the words stand for the heap
 -- with the object changed.
-use Rattle.std.proofs.Common.{◌≡◌, ◌≢◌, ℕ, ◌+◌, ◌*◌, ◌/◌, ◌<◌, ◌≤◌, ◌⊎◌, List, length, sym, ◌∙◌, subst, ap, arith, set, length-set, get_or-set_same, get_or-set_other, get_or, inl, inr, Option, Some, None}
+use Rattle.std.proofs.Common.{◌≡◌, ◌≢◌, ℕ, ◌+◌, ◌*◌, ◌/◌, ◌<◌, ◌≤◌, ◌⊎◌, List, length, refl, sym, ◌∙◌, subst, ap, arith, set, length-set, get_or-set_same, get_or-set_other, get_or, inl, inr, Option, Some, None}
 use Rattle.std.proofs.lemmas.Bool.{cases_eq, cases_lt}
 use Rattle.std.proofs.lemmas.Option.{slice_get_within}
 use Rattle.std.specs.Prelude.{slice_index, IfSome}
 use Rattle.heap_terms.specs.declared.cells.Value.{Value}
+use Rattle.heap_terms.specs.declared.cells.Value.TheVariants.{Ref}
 use Rattle.heap_terms.specs.Generations.{allocated}
 use Rattle.heap_terms.specs.Heap.{NamedHeap, object_at, thread_at, entry_at, fill_of, zero_value}
 use Rattle.heap_terms.specs.Layout.{page_words, filler_word, size_of}
@@ -19,6 +20,7 @@ use Rattle.heap_laws.proofs.AtPlaces.{IfSome-at, IfSome-from, IsSome-from}
 use Rattle.lisp_heap.specs.Parts.{Parts}
 use Rattle.lisp_heap.specs.Standing.{Holds, LabelsStand}
 use Rattle.lisp_heap.proofs.CellLemmas.{CellsStand-objects}
+use Rattle.lisp_heap.proofs.FinalizersKept.{FinalizersStand-everywhere}
 use Rattle.lisp_heap.proofs.ObjectLemmas.{word_of-replaced, name_below}
 use Rattle.lisp_heap.proofs.PutLemmas.{slots_count}
 
@@ -162,4 +164,5 @@ module _ (a : NamedHeap) (words new : List ℕ) (x : ℕ) (o : Object) (k : Cont
     };
     counted = holds.counted;
     triggered = holds.triggered;
+    finalizers = FinalizersStand-everywhere a (record a { objects = new_objects }) v.finalizers (λ name. values_stay (Ref name)) refl refl holds.finalizers;
   }

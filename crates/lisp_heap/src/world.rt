@@ -26,6 +26,7 @@ use crate::plan::{Plan, apply};
 use crate::scratch::Scratch;
 use crate::states::{States, ThreadState};
 use crate::wishes::wish;
+use finalizers::Finalizers;
 use generation_policy::GenStats;
 use heap_terms::{Command, Entry, Event, Kind, Memory, Next, PAGE_WORDS, PageType, Program};
 use lisp_words::{page_type, size_of};
@@ -54,6 +55,8 @@ pub struct World {
     pub(crate) counted: u64,
     /// How many commits let `auto` ask for a collection.
     pub(crate) triggered: u32,
+    /// What is registered for objects, and what waits to be run.
+    pub(crate) finalizers: Finalizers,
     pub(crate) history: Vec<Event>,
     /// What collections work with. A script without collections never needs it.
     pub(crate) scratch: Option<Scratch>,

@@ -5,6 +5,7 @@ ghost use Rattle.std.specs.Prelude.{◌≤◌};
 mod collections;
 mod generations;
 mod tables;
+mod threads;
 
 use crate::still::lispheap_still;
 use heap_io::{MemorySink, MemorySource};

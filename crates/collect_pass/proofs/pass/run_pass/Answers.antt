@@ -18,19 +18,19 @@ sweep-requires g c =
     let hit = subst (λ (ws : List ℕ). AreHitStarts g.h.heap c.args.pass.generation ws c.find_pins-count.new.pins.listed) c.as_slice-ambiguous.ensures.value c.find_pins-count.ensures.pins in (
       can-sweep g.h c.args.space.now c.args.pages.now c.args.roots.now.exact.items c.args.roots.now.ambiguous.items c.args.pass c.args.room.now c.requires c.room.inside c.room.invariant c.room.view_is
           c.find_pins-count.new.pins hit c.find_pins-count.ensures.most c.find_pins-count.result c.find_pins-count.ensures.count c.clear_notes.new.notes c.clear_notes.ensures
-          c.trace.new.space c.trace.new.pages c.trace.new.marks c.trace.new.exact c.trace.new.notes c.trace.ensures.traced c.trace.ensures.notes c.trace.ensures.room
+          c.trace.new.space c.trace.new.pages c.trace.new.marks c.trace.new.exact c.trace.new.notes c.trace.ensures.traced c.trace.ensures.notes
           _ c.as_slice.result.now c.as_slice.ensures.value refl refl refl refl c.target_of-target.ensures,
       (
         held-clear g.h c.args.space.now c.args.pages.now c.args.roots.now.exact.items c.args.roots.now.ambiguous.items c.args.pass c.args.room.now c.requires c.room.inside c.room.invariant c.room.view_is
             c.find_pins-count.new.pins hit c.find_pins-count.ensures.most c.find_pins-count.result c.find_pins-count.ensures.count c.clear_notes.new.notes c.clear_notes.ensures
-            c.trace.new.space c.trace.new.pages c.trace.new.marks c.trace.new.exact c.trace.new.notes c.trace.ensures.traced c.trace.ensures.notes c.trace.ensures.room,
+            c.trace.new.space c.trace.new.pages c.trace.new.marks c.trace.new.exact c.trace.new.notes c.trace.ensures.traced c.trace.ensures.notes,
         (
           freed-none g.h c.args.space.now c.args.pages.now c.args.roots.now.exact.items c.args.roots.now.ambiguous.items c.args.pass c.args.room.now c.requires c.room.inside c.room.invariant c.room.view_is
               c.find_pins-count.new.pins hit c.find_pins-count.ensures.most c.find_pins-count.result c.find_pins-count.ensures.count c.clear_notes.new.notes c.clear_notes.ensures
-              c.trace.new.space c.trace.new.pages c.trace.new.marks c.trace.new.exact c.trace.new.notes c.trace.ensures.traced c.trace.ensures.notes c.trace.ensures.room,
+              c.trace.new.space c.trace.new.pages c.trace.new.marks c.trace.new.exact c.trace.new.notes c.trace.ensures.traced c.trace.ensures.notes,
           freed-room g.h c.args.space.now c.args.pages.now c.args.roots.now.exact.items c.args.roots.now.ambiguous.items c.args.pass c.args.room.now c.requires c.room.inside c.room.invariant c.room.view_is
               c.find_pins-count.new.pins hit c.find_pins-count.ensures.most c.find_pins-count.result c.find_pins-count.ensures.count c.clear_notes.new.notes c.clear_notes.ensures
-              c.trace.new.space c.trace.new.pages c.trace.new.marks c.trace.new.exact c.trace.new.notes c.trace.ensures.traced c.trace.ensures.notes c.trace.ensures.room,
+              c.trace.new.space c.trace.new.pages c.trace.new.marks c.trace.new.exact c.trace.new.notes c.trace.ensures.traced c.trace.ensures.notes,
         ),
       ),
     )
@@ -40,7 +40,7 @@ finish_notes-requires g c =
     let hit = subst (λ (ws : List ℕ). AreHitStarts g.h.heap c.args.pass.generation ws c.find_pins-count.new.pins.listed) c.as_slice-ambiguous.ensures.value c.find_pins-count.ensures.pins in
     can-finish g.h c.args.space.now c.args.pages.now c.args.roots.now.exact.items c.args.roots.now.ambiguous.items c.args.pass c.args.room.now c.requires c.room.inside c.room.invariant c.room.view_is
     c.find_pins-count.new.pins hit c.find_pins-count.ensures.most c.find_pins-count.result c.find_pins-count.ensures.count c.clear_notes.new.notes c.clear_notes.ensures
-    c.trace.new.space c.trace.new.pages c.trace.new.marks c.trace.new.exact c.trace.new.notes c.trace.ensures.traced c.trace.ensures.notes c.trace.ensures.room
+    c.trace.new.space c.trace.new.pages c.trace.new.marks c.trace.new.exact c.trace.new.notes c.trace.ensures.traced c.trace.ensures.notes
     _ refl refl
 
 pub clear_marks-requires : goal.clear_marks-requires
@@ -48,7 +48,7 @@ clear_marks-requires g c =
     let hit = subst (λ (ws : List ℕ). AreHitStarts g.h.heap c.args.pass.generation ws c.find_pins-count.new.pins.listed) c.as_slice-ambiguous.ensures.value c.find_pins-count.ensures.pins in
     can-clear g.h c.args.space.now c.args.pages.now c.args.roots.now.exact.items c.args.roots.now.ambiguous.items c.args.pass c.args.room.now c.requires c.room.inside c.room.invariant c.room.view_is
     c.find_pins-count.new.pins hit c.find_pins-count.ensures.most c.find_pins-count.result c.find_pins-count.ensures.count c.clear_notes.new.notes c.clear_notes.ensures
-    c.trace.new.space c.trace.new.pages c.trace.new.marks c.trace.new.exact c.trace.new.notes c.trace.ensures.traced c.trace.ensures.notes c.trace.ensures.room
+    c.trace.new.space c.trace.new.pages c.trace.new.marks c.trace.new.exact c.trace.new.notes c.trace.ensures.traced c.trace.ensures.notes
     c.as_slice-2.result.now (c.as_slice-2.ensures.value ∙ ap (λ v. v.items) c.finish_notes.ensures.moves)
 
 pub invariant_of-room : goal.invariant_of-room
@@ -56,10 +56,11 @@ invariant_of-room g c =
     let hit = subst (λ (ws : List ℕ). AreHitStarts g.h.heap c.args.pass.generation ws c.find_pins-count.new.pins.listed) c.as_slice-ambiguous.ensures.value c.find_pins-count.ensures.pins in
     room-again g.h c.args.space.now c.args.pages.now c.args.roots.now.exact.items c.args.roots.now.ambiguous.items c.args.pass c.args.room.now c.requires c.room.inside c.room.invariant c.room.view_is
     c.find_pins-count.new.pins hit c.find_pins-count.ensures.most c.find_pins-count.result c.find_pins-count.ensures.count c.clear_notes.new.notes c.clear_notes.ensures
-    c.trace.new.space c.trace.new.pages c.trace.new.marks c.trace.new.exact c.trace.new.notes c.trace.ensures.traced c.trace.ensures.notes c.trace.ensures.room
+    c.trace.new.space c.trace.new.pages c.trace.new.marks c.trace.new.exact c.trace.new.notes c.trace.ensures.traced c.trace.ensures.notes
     c.as_slice.result.now c.as_slice.ensures.value c.sweep.new.space c.sweep.new.pages c.sweep.new.freed.items c.target_of-target.result c.target_of-target.ensures c.sweep.ensures.swept
     _ c.finish_notes.new.notes refl refl refl refl refl c.finish_notes.ensures
-    _ c.clear_marks.ensures c.find_pins-count.ensures.hints c.clear.ensures c.sweep.ensures.held refl refl refl refl c.sweep.ensures.capacity
+    _ c.clear_marks.ensures c.find_pins-count.ensures.hints c.clear.ensures (ap (λ p. p.listed) c.clear-2.ensures) (ap (λ p. p.most) c.clear-2.ensures ∙ c.trace.ensures.most) c.sweep.ensures.held
+    refl refl refl refl refl refl c.sweep.ensures.capacity
 
 -- the exact roots as a whole
 whole : (len : ℕ) (items now new : List ℕ) → now ≡ items → length now ≡ len → length new ≡ length now → take len (new ++ drop (length new) items) ≡ new
@@ -73,7 +74,7 @@ returns-clause-done g c =
     let hit = subst (λ (ws : List ℕ). AreHitStarts g.h.heap c.args.pass.generation ws c.find_pins-count.new.pins.listed) c.as_slice-ambiguous.ensures.value c.find_pins-count.ensures.pins in
     let done = pass-done g.h c.args.space.now c.args.pages.now c.args.roots.now.exact.items c.args.roots.now.ambiguous.items c.args.pass c.args.room.now c.requires c.room.inside c.room.invariant c.room.view_is
     c.find_pins-count.new.pins hit c.find_pins-count.ensures.most c.find_pins-count.result c.find_pins-count.ensures.count c.clear_notes.new.notes c.clear_notes.ensures
-    c.trace.new.space c.trace.new.pages c.trace.new.marks c.trace.new.exact c.trace.new.notes c.trace.ensures.traced c.trace.ensures.notes c.trace.ensures.room
+    c.trace.new.space c.trace.new.pages c.trace.new.marks c.trace.new.exact c.trace.new.notes c.trace.ensures.traced c.trace.ensures.notes
     c.as_slice.result.now c.as_slice.ensures.value c.sweep.new.space c.sweep.new.pages c.sweep.new.freed.items c.target_of-target.result c.target_of-target.ensures c.sweep.ensures.swept
     _ c.finish_notes.new.notes refl refl refl refl refl c.finish_notes.ensures in
     let all = whole c.args.roots.now.exact.len c.args.roots.now.exact.items c.as_mut_slice-exact.result.now c.trace.new.exact c.as_mut_slice-exact.ensures.value c.as_mut_slice-exact.ensures.len c.trace.auto.exact in
