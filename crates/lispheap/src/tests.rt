@@ -5,6 +5,7 @@ ghost use Rattle.std.specs.Prelude.{◌≤◌};
 mod collections;
 mod finalizers;
 mod generations;
+mod tables;
 mod threads;
 mod weakness;
 
