@@ -10,3 +10,6 @@ mod tables;
 pub use inserting::{Inserted, insert};
 pub use removing::{remove, remove_at};
 pub use tables::{count, find, look_up, needs_rehash, rehash};
+
+#[cfg(test)]
+mod tests;

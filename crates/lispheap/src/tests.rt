@@ -5,7 +5,9 @@ ghost use Rattle.std.specs.Prelude.{◌≤◌};
 mod collections;
 mod finalizing;
 mod generations;
+mod tables;
 mod threads;
+mod weakness;
 
 use crate::still::lispheap_still;
 use heap_io::{MemorySink, MemorySource};

@@ -68,6 +68,7 @@ made c = record {
   stats = c.self.inside.stats;
   counted = c.self.inside.counted;
   triggered = c.self.inside.triggered;
+  finalizers = c.self.inside.finalizers;
   history = c.push.new.self;
   scratch = c.self.inside.scratch;
 }
