@@ -3,7 +3,7 @@ use Rattle.heap_terms.specs.declared.kinds.Kind.{Kind}
 use Rattle.heap_terms.specs.Layout.{size_of}
 use Rattle.object_walk.specs.declared.found.Found.{Found}
 use Rattle.object_walk.proofs.Walked.{first_read}
-use Rattle.object_walk.proofs.found.object_at.Goals as goal
+use Rattle.object_walk.proofs.found.headed_at.Goals as goal
 
 pub returns : goal.returns
 returns c kind n h =
