@@ -10,7 +10,7 @@ use Rattle.heap_terms.specs.declared.programs.Program.{Program}
 use Rattle.heap_terms.specs.Complete.{IsComplete}
 use Rattle.heap_terms.specs.Heap.{NamedHeap, Thread, thread_at, ended_thread, fresh_thread}
 use Rattle.heap_terms.specs.Histories.{Lawful, due}
-use Rattle.heap_terms.specs.Phases.{is_over}
+use Rattle.heap_terms.specs.Phases.{collects, is_over}
 use Rattle.heap_terms.specs.Valid.{IsValid}
 use Rattle.heap_terms.specs.WellFormed.{IsWellFormed}
 use Rattle.heap_laws.proofs.NextEvents.{history_few}
@@ -100,3 +100,7 @@ fewer old new t valid lawful h =
     let most = history_few old.program old.history valid lawful in
     let long : length new.history ≡ length old.history + 1 = ap (λ (es : List Event). length es) h.history ∙ length_push old.history h.event in
     omega arith
+
+-- and one for which no collection is due may go on in any case
+pub calm_goes : (w : View) (t : ℕ) → t < length w.program.threads → (thread_at (heap_of w) t).ended ≡ false → collects (next_of w t) ≡ false → MayGo w t
+calm_goes w t l alive calm = record { thread = l; alive = over_is w.program (heap_of w) t ∙ alive; allowed = λ due. absurd (false≢true (sym calm ∙ due)) }

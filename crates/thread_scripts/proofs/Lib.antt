@@ -1,3 +1,3 @@
 mod ClosedThreads
-mod Ends
+pub mod Ends
 mod Seated

@@ -154,19 +154,30 @@ fn a_collection_waits_for_the_section_of_a_held_thread(rt: HostRuntime) -> Resul
 }
 
 /// Eight threads that make objects, pin them, inhibit collections and ask for them, all on a few pages.
-const EIGHT_THREADS: &str = "lispheap 1\nheap 48\nauto 64\nthread\ncons b0 s0 s0\nvector b1 20\nput b1 3 b0\ngc 0\ncons b2 b1 b0\npin b2\ngc 1\nget b3 b2 0\nunpin\ncons b4 b3 b3\nthread\nnogc\nvector s1 30\ncons b0 s1 s1\ngc 0\nput s1 0 b0\ngcok\ncons g1 b0 b0\nnil s1\ngc 0\nthread\ninstance b0 7\nput b0 2 g1\ncons b1 b0 b0\ngc 2\nget b2 b0 2\nshow b2\nthread\nwords b0 40 0x12\nraw r0 0x1000000007\ncons b1 b0 b0\ngc 0\nvector b2 9\nput b2 8 b1\ngc 0\nthread\nclosure b0 5\ncons g4 b0 b0\npin g4\ncons b2 g4 g4\ngc 1\nunpin\neq b2 g4\nthread\nvector b0 600\nput b0 599 g4\ngc 0\nget b1 b0 599\ncons b2 b1 b0\nthread\ncons s0 g1 g4\nnogc\ncons s1 s0 s0\ngc 3\ngcok\nmove g6 s1\ncons b0 g6 g6\nthread\nstat 0\npage 0\ncons b0 s0 s0\nput b0 0 b0\ngc 0\nput b0 1 g1\ncons b1 b0 b0\npage 1\nend\n";
+const EIGHT_THREADS: &str = "lispheap 1\nheap 48\nauto 512\nthread\ncons b0 s0 s0\nvector b1 20\nput b1 3 b0\ngc 0\ncons b2 b1 b0\npin b2\ngc 1\nget b3 b2 0\nunpin\ncons b4 b3 b3\nthread\nnogc\nvector s1 30\ncons b0 s1 s1\ngc 0\nput s1 0 b0\ngcok\ncons g1 b0 b0\nnil s1\ngc 0\nthread\ninstance b0 7\nput b0 2 g1\ncons b1 b0 b0\ngc 2\nget b2 b0 2\nshow b2\nthread\nwords b0 40 0x12\nraw r0 0x1000000007\ncons b1 b0 b0\ngc 0\nvector b2 9\nput b2 8 b1\ngc 0\nthread\nclosure b0 5\ncons g4 b0 b0\npin g4\ncons b2 g4 g4\ngc 1\nunpin\neq b2 g4\nthread\nvector b0 600\nput b0 599 g4\ngc 0\nget b1 b0 599\ncons b2 b1 b0\nthread\ncons s0 g1 g4\nnogc\ncons s1 s0 s0\ngc 3\ngcok\nmove g6 s1\ncons b0 g6 g6\nthread\nstat 0\npage 0\ncons b0 s0 s0\nput b0 0 b0\ngc 0\nput b0 1 g1\ncons b1 b0 b0\npage 1\nend\n";
 
 /// Whether thread t may have the next event.
 fn may_go(world: &World, t: u32) -> bool
     ensures { IsTrue result → MayGo world.now t }
 {
-    t < world.threads() && !world.has_ended(t) && (!world.is_due(t) || none_inhibits(world))
+    if t >= world.threads() {
+        return false;
+    }
+    if world.has_ended(t) {
+        return false;
+    }
+    if world.is_due(t) {
+        return none_inhibits(world);
+    }
+    true
 }
 
 /// Whether no thread inhibits collections.
 fn none_inhibits(world: &World) -> bool
     ensures { IsTrue result → NoneInhibits world.now }
 {
+    // Looked into here, for what a World keeps true.
+    let _history = world.history();
     for t in 0..world.threads() {
         if world.inhibits(t) {
             return false;
