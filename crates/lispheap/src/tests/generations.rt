@@ -68,7 +68,7 @@ fn three_threads_share_a_list_over_two_generations(rt: HostRuntime) -> Result<()
 fn old_graph(alloc: Global, rounds: usize) -> Result<Vec<u8>, Fail> {
     let mut script = Vec::from_slice(
         alloc,
-        b"lispheap 1\nheap 16\nthread\nvector b2 1\n".as_slice(),
+        b"lispheap 1\nheap 64\nthread\nvector b2 1\n".as_slice(),
     )?;
     for _ in 0..300 {
         script.extend_from_slice(b"cons b0 b1 b0\n".as_slice())?;
