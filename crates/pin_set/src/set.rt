@@ -80,10 +80,12 @@ impl PinSet {
         self.starts.len() as u32
     }
 
-    /// Takes all starts out. The room stays.
+    /// Takes all starts out. The room stays. Where there are none the room is not gone over.
     pub fn clear(&mut self)
         ensures { self.new ≡ record { listed = []; most = self.old.most } }
     {
-        self.starts.clear();
+        if self.starts.len() > 0 {
+            self.starts.clear();
+        }
     }
 }

@@ -71,13 +71,7 @@ fn ready_waiting(weak: &PinSet, copier: &mut Copier, waiting: &mut Waiting)
 }
 
 /// Goes through all tables from a number on.
-fn ready_all(
-    weak: &PinSet,
-    copier: &mut Copier,
-    waiting: &mut Waiting,
-    from: u32,
-    look: Look,
-)
+fn ready_all(weak: &PinSet, copier: &mut Copier, waiting: &mut Waiting, from: u32, look: Look)
     ghost a: { NamedHeap }
     requires { CanReady a (state copier.old) weak.now.listed }
     ensures readies { Readies a (state copier.old) (state copier.new) }

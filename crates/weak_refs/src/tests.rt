@@ -62,7 +62,13 @@ fn nothing_is_culled_where_nothing_was_noted(rt: HostRuntime) -> Result<(), Fail
     };
     let mut waiting = Waiting::new(alloc, 1, 1)?;
     let settled = finish(
-        &mut space, &mut pages, &mut marks, &pins, &weak, &mut notes, &mut waiting,
+        &mut space,
+        &mut pages,
+        &mut marks,
+        &pins,
+        &weak,
+        &mut notes,
+        &mut waiting,
     );
     assert!(rt; !settled);
     assert_eq!(rt; notes.culls.len() + notes.breaks.len(), 0);

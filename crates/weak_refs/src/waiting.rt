@@ -9,6 +9,7 @@ ghost use Rattle.heap_terms.specs.declared.limits.TheConstants.{MOST_PAGES};
 
 use heap_terms::{MOST_PAIRS, Memory, PAGE_WORDS};
 use std::alloc::Global;
+use word_space::Prefilled;
 
 /// How many sides a table has, at most.
 pub(crate) const SIDES: u32 = 2 * MOST_PAIRS;
@@ -18,9 +19,9 @@ pub(crate) const SIDES: u32 = 2 * MOST_PAIRS;
 #[derive(Drop)]
 pub struct Waiting {
     /// For each double word the first side that waits for the object there, plus 1; 0 for none.
-    heads: Vec<u32>,
+    heads: Prefilled<u32>,
     /// For each side the next one that waits for the same object, plus 1; 0 for none.
-    links: Vec<u32>,
+    links: Prefilled<u32>,
     /// So many of the listed tables have been looked at.
     pub(crate) met: u32,
     /// For the objects of so many moves nothing waits any more.
@@ -35,15 +36,10 @@ impl Waiting {
     pub fn new(alloc: Global, pages: u32, weak: u32) -> Result<Waiting, Memory>
         requires { pages ≤ MOST_PAGES }
     {
-        let mut heads = Vec::new(alloc);
-        let mut links = Vec::new(alloc);
-        if weak > 0 {
-            heads.resize((PAGE_WORDS / 2 * pages) as usize, 0)?;
-            links.resize(SIDES as usize * weak as usize, 0)?;
-        }
+        let any = (weak > 0) as usize;
         Ok(Waiting {
-            heads,
-            links,
+            heads: Prefilled::new(alloc, any * (PAGE_WORDS / 2 * pages) as usize, 0)?,
+            links: Prefilled::new(alloc, SIDES as usize * weak as usize, 0)?,
             met: 0,
             released: 0,
             any: false,
@@ -64,21 +60,24 @@ impl Waiting {
 
     /// The first side that waits for the object at an index, plus 1; nothing waits for it then.
     pub(crate) fn take(&mut self, index: u32) -> u32 {
-        match self.heads.get_mut((index / 2) as usize) {
-            Some(head) => {
-                let first = *head;
-                *head = 0;
-                first
-            }
-            None => 0,
+        let place = (index / 2) as usize;
+        if place >= self.heads.len() {
+            return 0;
         }
+        let first = self.heads.at(place);
+        if first != 0 {
+            self.heads.set(place, 0);
+        }
+        first
     }
 
     /// The next side behind one that waits for the same object, plus 1.
     pub(crate) fn next(&self, side: u32) -> u32 {
-        match self.links.get(side as usize) {
-            Some(link) => *link,
-            None => 0,
+        let place = side as usize;
+        if place < self.links.len() {
+            self.links.at(place)
+        } else {
+            0
         }
     }
 
@@ -87,14 +86,12 @@ impl Waiting {
         if side == u32::MAX {
             return;
         }
-        let Some(link) = self.links.get_mut(side as usize) else {
+        let place = (index / 2) as usize;
+        if side as usize >= self.links.len() || place >= self.heads.len() {
             return;
-        };
-        let Some(head) = self.heads.get_mut((index / 2) as usize) else {
-            return;
-        };
-        *link = *head;
-        *head = side + 1;
+        }
+        self.links.set(side as usize, self.heads.at(place));
+        self.heads.set(place, side + 1);
         self.any = true;
     }
 }
