@@ -27,6 +27,16 @@ same_words u w objects (entry ∷ list) all same =
     ap₂ (λ (word : ℕ) (rest : List Registration). record { object = word; id = entry.1 } ∷ rest) (same entry.0 (All-head (IsFinalizer objects) entry list all).there)
     (same_words u w objects list (All-tail (IsFinalizer objects) entry list all) same)
 
+pub FinalizersStand-everywhere : (a b : NamedHeap) (f : Lists) → ((name : ℕ) → word_of b.objects (Ref name) ≡ word_of a.objects (Ref name)) →
+    b.finalizers ≡ a.finalizers → b.queue ≡ a.queue → FinalizersStand a f → FinalizersStand b f
+FinalizersStand-everywhere a b f same finalizers queue s =
+    let words : (λ (name : ℕ). word_of a.objects (Ref name)) ≡ (λ (name : ℕ). word_of b.objects (Ref name)) = λ i name. sym (same name) i in
+    record {
+      registered = s.registered ∙ ap (λ (w : ℕ → ℕ). registrations w a.finalizers) words
+          ∙ ap (λ (list : List (ℕ × ℕ)). registrations (λ name. word_of b.objects (Ref name)) list) (sym finalizers);
+      queue = s.queue ∙ sym queue;
+    }
+
 -- no finalizers, and the same queue
 pub FinalizersStand-none : (a b : NamedHeap) (f : Lists) → a.finalizers ≡ [] → b.finalizers ≡ [] → b.queue ≡ a.queue → FinalizersStand a f → FinalizersStand b f
 FinalizersStand-none a b f none still queue s = record {

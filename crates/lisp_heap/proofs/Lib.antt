@@ -33,8 +33,9 @@ pub mod Starting
 pub mod Ending
 pub mod Leasing
 pub mod Relabelling
-pub mod NothingWeak
-pub mod StrongHeaps
+pub mod NoFinalizers
+pub mod RecordSizing
+pub mod WeakNoted
 pub mod Recorded
 pub mod FlatCells
 pub mod ExactRoots
@@ -53,6 +54,8 @@ pub mod KeptThere
 pub mod CountedThere
 pub mod NextPass
 pub mod PassesSoFar
+mod ReopenedRegions
+mod ParcelLists
 pub mod TableSlots
 pub mod KeyedPairs
 pub mod ObjectChanges
@@ -60,3 +63,4 @@ pub mod TablesHere
 pub mod TableSteps
 pub mod TablePlans
 pub mod TableReading
+pub mod TableActs

@@ -23,3 +23,4 @@ pub mod ParcelSound
 pub mod Kept
 pub mod Counted
 pub mod AllPasses
+pub mod Recalling

@@ -6,7 +6,7 @@ ghost use Rattle.heap_terms.specs.declared.events.PassRecord.{PassRecord as Reco
 ghost use Rattle.heap_terms.specs.Collections.{ArePasses};
 ghost use Rattle.trace_laws.specs.Rooted.{Rooted};
 ghost use Rattle.lisp_heap.specs.AllPasses.{AreRooms, IsNextPass, IsStepped, Stand, StandNow};
-ghost use Rattle.lisp_heap.specs.Recording.{HasRoom};
+ghost use Rattle.lisp_heap.specs.Recording.{HasRoom, sizes_of};
 
 use crate::one_pass::make_counted_pass;
 use crate::recording::RecordRoom;
@@ -32,14 +32,15 @@ fn make_next(
     ghost h: { Rooted }
     requires stand { StandNow h h.heap (length passes.old.items) space.old pages.old labels.old scratch.old.roots.exact.items scratch.old.roots.ambiguous.items stats.old }
     requires next { IsNextPass h.heap last (length passes.old.items) pass }
-    requires reserved { IsReservedFor scratch.old.room (length h.heap.pages) (length scratch.old.roots.ambiguous.items) 0 }
-    requires room { HasRoom room (length h.heap.objects) (length scratch.old.roots.ambiguous.items) (length h.heap.pages) }
+    requires reserved { IsReservedFor scratch.old.room (length h.heap.pages) (length scratch.old.roots.ambiguous.items) (length h.heap.objects) }
+    requires room { HasRoom room (sizes_of h.heap (length scratch.old.roots.ambiguous.items)) }
     requires push { vec_len passes.old < vec_capacity passes.old }
     ensures stepped { (r : Record) × (passes.new.items ≡ passes.old.items ++ r ∷ [])
         × IsStepped h last (length passes.old.items) pass space.new pages.new labels.new scratch.new.roots.exact.items scratch.new.roots.ambiguous.items stats.new r result }
     ensures ambiguous { scratch.new.roots.ambiguous.items ≡ scratch.old.roots.ambiguous.items }
     ensures room_pages { scratch.new.room.pages ≡ scratch.old.room.pages }
     ensures room_ambiguous { scratch.new.room.ambiguous ≡ scratch.old.room.ambiguous }
+    ensures room_weak { scratch.new.room.weak ≡ scratch.old.room.weak }
     ensures count { vec_len passes.new ≡ vec_len passes.old + 1 }
     ensures capacity { vec_capacity passes.new ≡ vec_capacity passes.old }
 {
@@ -62,8 +63,8 @@ pub fn make_passes(
 )
     ghost h: { Rooted }
     requires stand { Stand h last space.old pages.old labels.old scratch.old.roots.exact.items scratch.old.roots.ambiguous.items stats.old [] }
-    requires reserved { IsReservedFor scratch.old.room (length h.heap.pages) (length scratch.old.roots.ambiguous.items) 0 }
-    requires rooms { AreRooms rooms.items (length h.heap.objects) (length scratch.old.roots.ambiguous.items) (length h.heap.pages) }
+    requires reserved { IsReservedFor scratch.old.room (length h.heap.pages) (length scratch.old.roots.ambiguous.items) (length h.heap.objects) }
+    requires rooms { AreRooms rooms.items (sizes_of h.heap (length scratch.old.roots.ambiguous.items)) }
     requires six { vec_len rooms ≡ 6 }
     requires none { passes.old.items ≡ [] }
     requires capacity { 6 ≤ vec_capacity passes.old }
@@ -72,6 +73,7 @@ pub fn make_passes(
     ensures ambiguous { scratch.new.roots.ambiguous.items ≡ scratch.old.roots.ambiguous.items }
     ensures room_pages { scratch.new.room.pages ≡ scratch.old.room.pages }
     ensures room_ambiguous { scratch.new.room.ambiguous ≡ scratch.old.room.ambiguous }
+    ensures room_weak { scratch.new.room.weak ≡ scratch.old.room.weak }
 {
     let mut planned = plan_next(stats, last, None);
     while let Some(pass) = planned {

@@ -24,6 +24,7 @@ mod pin_commands;
 mod pins;
 mod plan;
 mod raw_commands;
+mod recalling;
 mod recording;
 mod referents;
 mod rooting;
@@ -38,7 +39,7 @@ mod world;
 pub use allocating::Lent;
 pub use collecting::CollectFault;
 pub use heap_terms::Next;
-pub use parcels::Parcel;
+pub use parcels::{Parcel, put_away_all};
 pub use world::World;
 
 #[cfg(test)]

@@ -32,6 +32,7 @@ pub fn make_pass(
     ensures ambiguous { scratch.new.roots.ambiguous.items ≡ scratch.old.roots.ambiguous.items }
     ensures room_pages { scratch.new.room.pages ≡ scratch.old.room.pages }
     ensures room_ambiguous { scratch.new.room.ambiguous ≡ scratch.old.room.ambiguous }
+    ensures room_weak { scratch.new.room.weak ≡ scratch.old.room.weak }
 {
     run_pass(space, pages, &mut scratch.roots, pass, &mut scratch.room);
     let record = write_record(scratch.room.notes(), labels, room);
@@ -72,6 +73,7 @@ pub fn make_counted_pass(
     ensures ambiguous { scratch.new.roots.ambiguous.items ≡ scratch.old.roots.ambiguous.items }
     ensures room_pages { scratch.new.room.pages ≡ scratch.old.room.pages }
     ensures room_ambiguous { scratch.new.room.ambiguous ≡ scratch.old.room.ambiguous }
+    ensures room_weak { scratch.new.room.weak ≡ scratch.old.room.weak }
 {
     account_before(stats, pass);
     let made = make_pass(space, pages, labels, scratch, pass, room);

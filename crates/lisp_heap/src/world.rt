@@ -361,6 +361,9 @@ impl World {
                 let plan = self.pairs_counted(t as usize, c);
                 self.carry_out(t, command, plan)
             }
+            Command::TablePut { c, k, v } => self.put_pair(t, c, k, v),
+            Command::TableGet { d, c, k } => self.get_value(t, d, c, k),
+            Command::TableRem { c, k } => self.remove_pair(t, c, k),
             // These allocate.
             Command::NewCons { .. }
             | Command::NewVector { .. }
@@ -370,10 +373,7 @@ impl World {
             | Command::NewWeak { .. }
             | Command::NewTable { .. } => unreachable!(),
             // These are not built yet.
-            Command::TablePut { .. }
-            | Command::TableGet { .. }
-            | Command::TableRem { .. }
-            | Command::Finalize { .. }
+            Command::Finalize { .. }
             | Command::Cancel { .. }
             | Command::RunFinalizers => unreachable!(),
         }

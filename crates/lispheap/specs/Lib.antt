@@ -1,3 +1,4 @@
 pub mod Texts
 pub mod Journals
 pub mod Answers
+pub mod OnThreads

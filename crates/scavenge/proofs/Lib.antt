@@ -10,3 +10,4 @@ pub mod OlderPieces
 pub mod OlderPages
 pub mod EmptyHeap
 pub mod Carried
+pub mod ClearPages

@@ -29,9 +29,9 @@ use Rattle.scavenge.proofs.OlderPieces.{older, other-on_page}
 use Rattle.scavenge.proofs.Shapes.{field_is_behind}
 
 -- what a page is on which roots may begin
-record IsRooted (e : Entry) (page g : ℕ) : Type 0 where
-  other : is_page_of e g ≡ false
-  laid : laid_words page e ≡ fill_of e
+pub record IsRooted (e : Entry) (page g : ℕ) : Type 0 where
+  pub other : is_page_of e g ≡ false
+  pub laid : laid_words page e ≡ fill_of e
 
 is_rooted : (e : Entry) (page g : ℕ) → has_roots e page g ≡ true → IsRooted e page g
 is_rooted Free page g rooted_so = absurd (false≢true rooted_so)
@@ -47,9 +47,9 @@ is_rooted (Used ty k fill first n) page g rooted_so =
     not_true false e = refl
 
 -- where there are words with roots, they are all words of such a page
-record HasRoots (e : Entry) (page g words : ℕ) : Type 0 where
-  rooted : IsRooted e page g
-  all : words ≡ fill_of e
+pub record HasRoots (e : Entry) (page g words : ℕ) : Type 0 where
+  pub rooted : IsRooted e page g
+  pub all : words ≡ fill_of e
 
 with_roots : (e : Entry) (page g words : ℕ) → words ≡ root_words e page g → 0 < words → HasRoots e page g words
 with_roots e page g words is some = elim (cases_Bool (has_roots e page g)) [
@@ -58,7 +58,7 @@ with_roots e page g words is some = elim (cases_Bool (has_roots e page g)) [
 ]
 
 module _ (a : NamedHeap) (s : CopyState) (page words : ℕ) (can : CanScanPage a s page words) where
-  rooted_page : 0 < words → HasRoots (entry_at a.pages page) page s.pass.generation words
+  pub rooted_page : 0 < words → HasRoots (entry_at a.pages page) page s.pass.generation words
   rooted_page some = with_roots (entry_at a.pages page) page s.pass.generation words can.words_are some
 
   pub words-most : words ≤ 512
@@ -124,12 +124,12 @@ same-roots a s h page g = elim ((its a s h.places).placing.fresh page) [
 ]
 
 -- how an object begins on its page
-record BeginsOn (e : Entry) (o : Object) : Type 0 where
-  ty : PageType
-  fill : ℕ
-  n : ℕ
-  entry : e ≡ Used ty o.generation fill (o.place / 512) n
-  type : ty ≡ page_type_of (kind_of o.contents)
+pub record BeginsOn (e : Entry) (o : Object) : Type 0 where
+  pub ty : PageType
+  pub fill : ℕ
+  pub n : ℕ
+  pub entry : e ≡ Used ty o.generation fill (o.place / 512) n
+  pub type : ty ≡ page_type_of (kind_of o.contents)
 
 on_page : (o : Object) (e : Entry) → IsOnPage o e → BeginsOn e o
 on_page o Free h = absurd h
@@ -141,7 +141,7 @@ on_run o i Free h = absurd h
 on_run o i (Used ty g fill first n) h =
     record { ty = ty; fill = fill; n = n; type = h.0; entry = ap (λ (k : ℕ). Used ty k fill first n) h.1 ∙ ap (λ (k : ℕ). Used ty o.generation fill k n) h.2 }
 
-begins_on : (pages : List Entry) (o : Object) → IsPlaced pages o → BeginsOn (entry_at pages (o.place / 512)) o
+pub begins_on : (pages : List Entry) (o : Object) → IsPlaced pages o → BeginsOn (entry_at pages (o.place / 512)) o
 begins_on pages o h = elim (cases_Bool (is_small (words_of_object o))) [
   | inl small ↦ on_page o (entry_at pages (o.place / 512)) (h.small small)
   | inr large ↦ (let least = large_least (words_of_object o) large in

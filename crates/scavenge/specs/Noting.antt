@@ -1,6 +1,6 @@
 -- Weak pointers and tables are noted when they are scanned, by the starts at which they stand now. What is done with an
 -- object is that its fields are scanned, and that it is noted if it is one of them.
-use Rattle.std.specs.Prelude.{◌≡◌, ◌≢◌, ℕ, ◌≤◌, List, All, AllPairs, Some, true, nat_eq}
+use Rattle.std.specs.Prelude.{◌≡◌, ◌≢◌, ℕ, ◌≤◌, List, All, AllPairs, true, nat_eq}
 use Rattle.std.specs.List.{list_any}
 use Rattle.heap_terms.specs.Heap.{NamedHeap}
 use Rattle.heap_terms.specs.Objects.{Object}

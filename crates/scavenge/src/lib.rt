@@ -2,6 +2,7 @@
 //! unscanned. The weak pointers and tables among it are noted.
 #![tactic(auto)]
 
+mod clear;
 mod fields;
 mod noting;
 mod objects;

@@ -5,7 +5,7 @@ use Rattle.std.proofs.lemmas.List.{get_or_past}
 use Rattle.std.proofs.lemmas.Option.{slice_get_within, get_or_from_slice_get, none-some}
 use Rattle.std.specs.Prelude.{slice_get}
 use Rattle.heap_terms.specs.declared.commands.Command.{Command}
-use Rattle.heap_terms.specs.declared.commands.Command.TheVariants.{Fix, MakeNil, Move, NewCons, NewVector, NewInstance, NewClosure, NewWords, Get, Put, RawGet, RawPut, Same, Show, Addr, SetRaw, AddRaw, Pin, Unpin, Collect, Inhibit, Allow, ShowPage, Stat}
+use Rattle.heap_terms.specs.declared.commands.Command.TheVariants.{Fix, MakeNil, Move, NewCons, NewVector, NewInstance, NewClosure, NewWords, NewWeak, NewTable, Get, Put, RawGet, RawPut, Same, Show, Addr, SetRaw, AddRaw, Pin, Unpin, WeakVal, TablePut, TableGet, TableRem, TableCount, Collect, Inhibit, Allow, ShowPage, Stat}
 use Rattle.heap_terms.specs.declared.programs.Program.{Program}
 use Rattle.heap_terms.specs.Histories.{script_of}
 use Rattle.heap_terms.specs.Valid.{IsValid, IsCommand, name_of, is_built}
@@ -37,6 +37,8 @@ IsBuilt (NewVector d n) = Unit {0}
 IsBuilt (NewInstance d n) = Unit {0}
 IsBuilt (NewClosure d n) = Unit {0}
 IsBuilt (NewWords d n w) = Unit {0}
+IsBuilt (NewWeak d c) = Unit {0}
+IsBuilt (NewTable d w b) = Unit {0}
 IsBuilt (Get d c i) = Unit {0}
 IsBuilt (Put c i a) = Unit {0}
 IsBuilt (RawGet r c i) = Unit {0}
@@ -48,6 +50,11 @@ IsBuilt (SetRaw r w) = Unit {0}
 IsBuilt (AddRaw r k) = Unit {0}
 IsBuilt (Pin c) = Unit {0}
 IsBuilt Unpin = Unit {0}
+IsBuilt (WeakVal d c) = Unit {0}
+IsBuilt (TablePut c k v) = Unit {0}
+IsBuilt (TableGet d c k) = Unit {0}
+IsBuilt (TableRem c k) = Unit {0}
+IsBuilt (TableCount c) = Unit {0}
 IsBuilt (Collect g) = Unit {0}
 IsBuilt Inhibit = Unit {0}
 IsBuilt Allow = Unit {0}
@@ -65,6 +72,8 @@ IsBuilt-from_word (NewVector d n) e = tt
 IsBuilt-from_word (NewInstance d n) e = tt
 IsBuilt-from_word (NewClosure d n) e = tt
 IsBuilt-from_word (NewWords d n w) e = tt
+IsBuilt-from_word (NewWeak d c) e = tt
+IsBuilt-from_word (NewTable d w b) e = tt
 IsBuilt-from_word (Get d c i) e = tt
 IsBuilt-from_word (Put c i a) e = tt
 IsBuilt-from_word (RawGet r c i) e = tt
@@ -76,6 +85,11 @@ IsBuilt-from_word (SetRaw r w) e = tt
 IsBuilt-from_word (AddRaw r k) e = tt
 IsBuilt-from_word (Pin c) e = tt
 IsBuilt-from_word Unpin e = tt
+IsBuilt-from_word (WeakVal d c) e = tt
+IsBuilt-from_word (TablePut c k v) e = tt
+IsBuilt-from_word (TableGet d c k) e = tt
+IsBuilt-from_word (TableRem c k) e = tt
+IsBuilt-from_word (TableCount c) e = tt
 IsBuilt-from_word (Collect g) e = tt
 IsBuilt-from_word Inhibit e = tt
 IsBuilt-from_word Allow e = tt

@@ -4,12 +4,13 @@ use Rattle.std.proofs.lemmas.Bool.{cases_lt, false≢true, ltb-true}
 use Rattle.std.proofs.lemmas.List.{get_or_past, get_or_push, length_push}
 use Rattle.std.proofs.lemmas.List.Elements.{All-from_recursion}
 use Rattle.std.specs.List.{All, AllByRecursion}
-use Rattle.std.specs.Prelude.{IfSome, IsSome, slice_index_or, ◌==◌, nat_lt}
+use Rattle.std.specs.Prelude.{IfSome, IsSome, slice_index_or, ◌==◌, ◌||◌, nat_lt}
 use Rattle.heap_terms.specs.declared.answers.Answer.TheVariants as answers
 use Rattle.heap_terms.specs.declared.cells.Value.{Value}
 use Rattle.heap_terms.specs.declared.cells.Value.TheVariants as values
+use Rattle.heap_terms.specs.declared.cells.Cell.{Cell}
 use Rattle.heap_terms.specs.declared.commands.Command.{Command}
-use Rattle.heap_terms.specs.declared.commands.Command.TheVariants.{Fix, MakeNil, Move, NewCons, NewVector, NewInstance, NewClosure, NewWords, Get, Put, RawGet, RawPut, Same, Show, Addr, SetRaw, AddRaw, Pin, Unpin, Collect, Inhibit, Allow, ShowPage, Stat}
+use Rattle.heap_terms.specs.declared.commands.Command.TheVariants.{Fix, MakeNil, Move, NewCons, NewVector, NewInstance, NewClosure, NewWords, NewWeak, NewTable, Get, Put, RawGet, RawPut, Same, Show, Addr, SetRaw, AddRaw, Pin, Unpin, WeakVal, TablePut, TableGet, TableRem, TableCount, Collect, Inhibit, Allow, ShowPage, Stat}
 use Rattle.heap_terms.specs.declared.events.Event.{Event}
 use Rattle.heap_terms.specs.declared.kinds.Kind.{Kind}
 use Rattle.heap_terms.specs.declared.programs.Program.{Program}
@@ -18,15 +19,18 @@ use Rattle.heap_terms.specs.Cells.{cell_value, with_cell}
 use Rattle.heap_terms.specs.Heap.{NamedHeap, start, thread_at, object_at, zero_value}
 use Rattle.heap_terms.specs.Histories.{IsNext, after, advance, Lawful, LawfulFrom, thread_of}
 use Rattle.heap_terms.specs.Layout.{page_words, size_of}
-use Rattle.heap_terms.specs.Objects.{Object, Contents, WordsOf, kind_of, payload_of}
+use Rattle.heap_terms.specs.Living.{IsLivingOrUnbound}
+use Rattle.heap_terms.specs.Objects.{Object, Contents, WordsOf, WeakTo, TableOf, kind_of, payload_of}
 use Rattle.heap_laws.specs.Numbers.{HasNumbers, most_passes}
 use Rattle.heap_laws.specs.Plain.{IsPlainValue, IsPlainAnswer, IsPlain}
 use Rattle.heap_terms.specs.Outcome.{Outcome, done, answering}
 use Rattle.heap_terms.specs.Outcomes.{outcome_of}
 use Rattle.heap_terms.specs.Outcomes.RawCommands.{taking}
-use Rattle.heap_terms.specs.Pairs.{same_value}
+use Rattle.heap_terms.specs.Outcomes.TableCommands.{found_outcome}
+use Rattle.heap_terms.specs.Outcomes.WeakCommands.{weak_outcome}
+use Rattle.heap_terms.specs.Pairs.{same_value, has_key, value_at}
 use Rattle.heap_terms.specs.RawCells.{raw_value}
-use Rattle.heap_terms.specs.Referents.{fields_at, raws_at, with_field_at, with_raws, changed_at}
+use Rattle.heap_terms.specs.Referents.{fields_at, raws_at, pointee_at, table_at, with_field_at, with_raws, changed_at}
 use Rattle.heap_terms.specs.Regions.{committed, place_for}
 use Rattle.heap_terms.specs.Valid.{IsValid, IsInRange}
 use Rattle.heap_terms.specs.WellFormed.{IsWellFormed, IsLiving, HoldsLiving, IsShaped}
@@ -35,7 +39,8 @@ use Rattle.pass_laws.proofs.Ranges.{collection_plain}
 use Rattle.heap_laws.proofs.Ranges.PlainPages.{view_plain}
 use Rattle.heap_laws.proofs.Ranges.ObjectCount.{IsCounted, after-counted, counted_few, event_thread}
 use Rattle.heap_laws.proofs.Ranges.PolicyNumbers.{HasFewSums, start-few, after-few, numbers-few}
-use Rattle.heap_laws.proofs.Outcomes.Parts.{by_test, needing_cases, indexing_cases, fields_refer, raws_refer}
+use Rattle.heap_laws.proofs.Outcomes.Parts.{by_test, needing_cases, indexing_cases, fields_refer, raws_refer, pointee_refers, table_refers}
+use Rattle.heap_laws.proofs.Outcomes.PairLists.{pairs_all, value_at-living}
 use Rattle.heap_laws.proofs.Outcomes.WordBounds.{word_below, word_plus-below}
 use Rattle.heap_laws.proofs.Events.Causes.{by_events}
 use Rattle.heap_laws.proofs.WellFormed.LivingValues.{cell_living, fields_living}
@@ -57,6 +62,17 @@ living_plain objects values.Nil few h = tt
 living_plain objects values.Unbound few h = h
 living_plain objects (values.Ref name) few h = let l = name_below objects name h in omega arith
 
+-- what a weak pointer points to, and what is found in a table
+weak_plain : (a : NamedHeap) (t : ℕ) (d : Cell) (v : Value) → length a.objects ≤ MOST_COMMANDS → IsLivingOrUnbound a.objects v → IsPlainAnswer (weak_outcome a t d v).answer
+weak_plain a t d (values.Fix n) few h = h
+weak_plain a t d values.Nil few h = tt
+weak_plain a t d values.Unbound few h = tt
+weak_plain a t d (values.Ref name) few h = living_plain a.objects (values.Ref name) few h
+
+found_plain : (a : NamedHeap) (t : ℕ) (d : Cell) (o : Option Value) → length a.objects ≤ MOST_COMMANDS → ((v : Value) → o ≡ Some v → IsLiving a.objects v) → IsPlainAnswer (found_outcome a t d o).answer
+found_plain a t d None few h = tt
+found_plain a t d (Some v) few h = living_plain a.objects v few (h v refl)
+
 pub answer_plain : (p : Program) (a : NamedHeap) (t : ℕ) (c : Command) → IsWellFormed p a → t < length p.threads → length a.objects ≤ MOST_COMMANDS →
     HasNumbers a most_passes → p.pages ≤ MOST_PAGES → IsBuilt c → IsInRange c → IsPlainAnswer (outcome_of a t c).answer
 unfolding outcome_of
@@ -68,6 +84,8 @@ answer_plain p a t (NewVector d n) w l few numbers pages built r = tt
 answer_plain p a t (NewInstance d n) w l few numbers pages built r = tt
 answer_plain p a t (NewClosure d n) w l few numbers pages built r = tt
 answer_plain p a t (NewWords d n v) w l few numbers pages built r = tt
+answer_plain p a t (NewWeak d x) w l few numbers pages built r = tt
+answer_plain p a t (NewTable d x b) w l few numbers pages built r = tt
 answer_plain p a t (Get d x i) w l few numbers pages built r = needing_cases (λ (o : Outcome). IsPlainAnswer o.answer) (fields_at a.objects (cell_value a t x)) a _ tt (λ vs e.
     indexing_cases (λ (o : Outcome). IsPlainAnswer o.answer) vs i zero_value a (λ v. answering (answers.Val v) (with_cell a t d v)) tt (λ below.
     let f = fields_refer a.objects (cell_value a t x) vs e in
@@ -91,6 +109,22 @@ answer_plain p a t (SetRaw d v) w l few numbers pages built r = tt
 answer_plain p a t (AddRaw d k) w l few numbers pages built r = word_plus-below (raw_value a t d) k
 answer_plain p a t (Pin x) w l few numbers pages built r = by_test (λ (o : Outcome). IsPlainAnswer o.answer) (nat_lt (length (thread_at a t).pins) MOST_PINS) _ _ (λ e. tt) (λ e. tt)
 answer_plain p a t Unpin w l few numbers pages built r = by_test (λ (o : Outcome). IsPlainAnswer o.answer) (length (thread_at a t).pins == 0) _ _ (λ e. tt) (λ e. tt)
+answer_plain p a t (WeakVal d x) w l few numbers pages built r = needing_cases (λ (o : Outcome). IsPlainAnswer o.answer) (pointee_at a.objects (cell_value a t x)) a _ tt (λ v e.
+    let f = pointee_refers a.objects (cell_value a t x) v e in
+    let holds : HoldsLiving a.objects (WeakTo v) = subst (λ (k : Contents). HoldsLiving a.objects k) f.holds (w.sound.objects f.name f.object f.there).contents in
+    weak_plain a t d v few holds)
+answer_plain p a t (TablePut x k v) w l few numbers pages built r = needing_cases (λ (o : Outcome). IsPlainAnswer o.answer) (table_at a.objects (cell_value a t x)) a _ tt (λ table e.
+    by_test (λ (o : Outcome). IsPlainAnswer o.answer) (has_key table.pairs (cell_value a t k) || nat_lt (length table.pairs) table.capacity) _ _ (λ e. tt) (λ e. tt))
+answer_plain p a t (TableGet d x k) w l few numbers pages built r = needing_cases (λ (o : Outcome). IsPlainAnswer o.answer) (table_at a.objects (cell_value a t x)) a _ tt (λ table e.
+    let f = table_refers a.objects (cell_value a t x) table e in
+    let holds : HoldsLiving a.objects (TableOf table.weakness table.capacity table.pairs) = subst (λ (k : Contents). HoldsLiving a.objects k) f.holds (w.sound.objects f.name f.object f.there).contents in
+    found_plain a t d (value_at table.pairs (cell_value a t k)) few (λ v found. value_at-living a.objects table.pairs (cell_value a t k) v (pairs_all a.objects table.pairs holds) found))
+answer_plain p a t (TableRem x k) w l few numbers pages built r = needing_cases (λ (o : Outcome). IsPlainAnswer o.answer) (table_at a.objects (cell_value a t x)) a _ tt (λ table e.
+    by_test (λ (o : Outcome). IsPlainAnswer o.answer) (has_key table.pairs (cell_value a t k)) _ _ (λ e. tt) (λ e. tt))
+answer_plain p a t (TableCount x) w l few numbers pages built r = needing_cases (λ (o : Outcome). IsPlainAnswer o.answer) (table_at a.objects (cell_value a t x)) a _ tt (λ table e.
+    let f = table_refers a.objects (cell_value a t x) table e in
+    let shape : IsShaped (TableOf table.weakness table.capacity table.pairs) = subst (λ (k : Contents). IsShaped k) f.holds (w.sound.objects f.name f.object f.there).shape in
+    omega (arith, shape.1, shape.2))
 answer_plain p a t (Collect g) w l few numbers pages built r = tt
 answer_plain p a t Inhibit w l few numbers pages built r = tt
 answer_plain p a t Allow w l few numbers pages built r = by_test (λ (o : Outcome). IsPlainAnswer o.answer) ((thread_at a t).inhibits == 0) _ _ (λ e. tt) (λ e. tt)

@@ -4,7 +4,7 @@ use Rattle.lisp_heap.proofs.recording.reserve_rooms.Given as goal
 
 abbrev pub invariant-loop-n : goal.invariant-loop-n
 invariant-loop-n l = record {
-  each : AreRooms l.rooms.items l.moves l.pins l.freed;
+  each : AreRooms l.rooms.items l.sizes;
   len : vec_len l.rooms ≡ l.n;
   room : 6 ≤ vec_capacity l.rooms;
 }

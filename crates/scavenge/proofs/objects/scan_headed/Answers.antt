@@ -1,6 +1,4 @@
 -- The fields behind a header are scanned; a weak pointer or table is noted.
-use Rattle.std.proofs.Common.{◌≡◌, ℕ, sym}
-use Rattle.std.specs.Prelude.{slice_index}
 use Rattle.copy_space.specs.State.{state}
 use Rattle.scavenge.proofs.FirstWord.{fields-behind, headed-scanned}
 use Rattle.scavenge.proofs.NotedObjects.{strong-done, weak-done, weak-here}

@@ -5,8 +5,8 @@ use Rattle.heap_terms.specs.declared.events.Event.TheVariants.{Collected}
 use Rattle.heap_terms.specs.declared.events.PassRecord.{PassRecord}
 use Rattle.std.proofs.lemmas.List.{length-map}
 use Rattle.lisp_heap.specs.CellsView.{with_exact_words}
-use Rattle.lisp_heap.specs.AllPasses.{AreRooms}
 use Rattle.lisp_heap.specs.State.{state_closed, with_owed}
+use Rattle.lisp_heap.specs.declared.recording.RecordSizes.{RecordSizes}
 use Rattle.lisp_heap.specs.declared.world.World.TheInside.{Inside}
 use Rattle.lisp_heap.proofs.CollectingWith.{can_begin, exact_long, has_room, have_rooms, Written, sound_then, happens, agrees}
 use Rattle.lisp_heap.proofs.Soundness.{states_length}
@@ -18,15 +18,20 @@ pub make_passes-requires : goal.make_passes-requires
 make_passes-requires g c =
     let s = c.self.inside in
     let ambiguous = c.gather.new.roots.ambiguous.items in
-    let fit : AreRooms c.in_ok-rooms.rooms.items s.commits (length ambiguous) (length s.pages) =
-    subst (λ (n : ℕ). AreRooms c.in_ok-rooms.rooms.items s.commits n (length s.pages)) (c.len-pinned.ensures ∙ omega (arith, c.gather.new.roots.ambiguous.ok))
-    (subst (λ (n : ℕ). AreRooms c.in_ok-rooms.rooms.items s.commits c.len-pinned.result n) c.len.ensures.value c.in_ok-rooms.ensures.rooms) in (
+    let sizes : RecordSizes = record {
+      moves = s.commits;
+      pins = c.len.result;
+      culls = c.len-2.result;
+      breaks = s.commits;
+      queued = 0;
+      freed = c.len-3.result;
+    } in (
       can_begin s c.self.invariant c.args.self.now c.self.view_is g.h c.requires.0 c.args.last c.gather.new.roots.exact.items ambiguous
           c.in_ok-gather.ensures.exact c.in_ok-gather.ensures.ambiguous,
       (
         has_room s c.self.invariant c.args.self.now c.self.view_is g.h c.requires.0 ambiguous c.args.scratch.now.room c.in_ok-gather.ensures.ambiguous c.requires.1.1.1.1,
         (
-          have_rooms s c.self.invariant c.args.self.now c.self.view_is g.h c.requires.0 c.in_ok-rooms.rooms.items ambiguous fit,
+          have_rooms s c.self.invariant c.args.self.now c.self.view_is g.h c.requires.0 c.in_ok-rooms.rooms.items ambiguous sizes refl (c.len.ensures ∙ omega (arith, c.gather.new.roots.ambiguous.ok)) (c.len-2.ensures ∙ omega (arith, s.history.ok)) refl c.len-3.ensures.value c.in_ok-rooms.ensures.rooms,
           (c.in_ok-rooms.ensures.six, (c.in_ok-passes.ensures.items, omega (arith, c.in_ok-passes.ensures.capacity))),
         ),
       ),

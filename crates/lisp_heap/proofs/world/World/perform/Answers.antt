@@ -44,22 +44,13 @@ unreachable-requires c =
       ]
     ]
 
-pub unreachable-requires-in-TablePut : goal.unreachable-requires-in-TablePut
-unreachable-requires-in-TablePut c =
+pub unreachable-requires-in-Finalize : goal.unreachable-requires-in-Finalize
+unreachable-requires-in-Finalize c =
     let simple = simple_here c.self.inside c.args.self.now c.self.invariant c.self.view_is c.args.t c.current-command.result c.current-command.ensures c.requires.simple in
-    elim c.in-TablePut.is [
-      | inl e ↦ subst IsSimple e.3 simple
+    elim c.in-Finalize.is [
+      | inl e ↦ subst IsSimple e.2 simple
       | inr more ↦ elim more [
-        | inl e ↦ subst IsSimple e.3 simple
-        | inr more ↦ elim more [
-          | inl e ↦ subst IsSimple e.2 simple
-          | inr more ↦ elim more [
-            | inl e ↦ subst IsSimple e.2 simple
-            | inr more ↦ elim more [
-              | inl e ↦ subst IsSimple e.1 simple
-              | inr more ↦ subst IsSimple more simple
-            ]
-          ]
-        ]
+        | inl e ↦ subst IsSimple e.1 simple
+        | inr more ↦ subst IsSimple more simple
       ]
     ]

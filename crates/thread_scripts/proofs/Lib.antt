@@ -1,0 +1,3 @@
+mod ClosedThreads
+mod Ends
+mod Seated
