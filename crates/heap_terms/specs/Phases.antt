@@ -10,6 +10,7 @@ use Rattle.heap_terms.specs.declared.phases.Task.{Task}
 use Rattle.heap_terms.specs.declared.phases.Task.TheVariants.{Walk, Happen, Rest}
 use Rattle.heap_terms.specs.declared.steps.StepAnswer.{StepAnswer}
 use Rattle.heap_terms.specs.declared.steps.StepAnswer.TheVariants as answers
+use Rattle.heap_terms.specs.declared.steps.WordStep.{WordStep}
 use Rattle.heap_terms.specs.declared.steps.WordStep.TheVariants as steps
 
 -- a collection comes next
