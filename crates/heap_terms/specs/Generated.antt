@@ -105,11 +105,11 @@ progressed g = record {
 }
 
 -- the next n commands, and the progress after them
-abbrev pub commands_from : ℕ → Progress → List Command
+unfoldable pub commands_from : ℕ → Progress → List Command
 commands_from zero g = []
 commands_from (suc n) g = (next_drawn g).command ∷ commands_from n (progressed g)
 
-abbrev pub progress_after : ℕ → Progress → Progress
+unfoldable pub progress_after : ℕ → Progress → Progress
 progress_after zero g = g
 progress_after (suc n) g = progress_after n (progressed g)
 
@@ -118,7 +118,7 @@ abbrev pub commands_each : ℕ
 commands_each = 400
 
 -- the commands of n threads, one thread after the other
-abbrev pub threads_from : ℕ → Progress → List (List Command)
+unfoldable pub threads_from : ℕ → Progress → List (List Command)
 threads_from zero g = []
 threads_from (suc n) g = commands_from commands_each g ∷ threads_from n (progress_after commands_each g)
 
