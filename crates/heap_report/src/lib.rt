@@ -1,0 +1,9 @@
+//! What a run came to, in fifteen numbers, and their text.
+#![tactic(auto)]
+
+mod counting;
+mod printing;
+
+pub use counting::summary;
+pub use heap_terms::Totals;
+pub use printing::print_summary;
