@@ -1,3 +1,5 @@
 pub mod Texts
+pub mod Streams
 pub mod Journals
+pub mod Generating
 pub mod Answers

@@ -1,7 +1,9 @@
-//! The program: it reads a script, replays it, and writes the journal of what happened.
+//! The program: it reads a script, replays it, and writes the journal of what happened; or it makes a
+//! script of its own.
 #![tactic(auto)]
 
 mod faults;
+mod generating;
 mod still;
 #[cfg(test)]
 mod tests;

@@ -1,0 +1,79 @@
+-- How calls end, by the form of their words.
+use Rattle.std.proofs.Common.{◌≡◌, ℕ, ◌⊎◌, List, [], ◌∷◌, Option, Some, None, Bool, true, false, refl, ap, sym, ◌∙◌, subst, inl, inr, arith, codes, Result, Ok, Err, OnOk}
+use Rattle.std.specs.Prelude.{IfErr, ◌↔◌, is_some}
+use Rattle.std.proofs.lemmas.Bool.{false≢true}
+use Rattle.command_words.specs.Forms.{wanted, wanted_after}
+use Rattle.lispheap.specs.declared.faults.Fault.{Fault}
+use Rattle.lispheap.specs.declared.faults.Fault.TheVariants as faults
+use Rattle.lispheap.specs.Answers.{Change, Answers, Ends, EndsEither, Failed, IsExact, IsForm, IsReplay, IsUntouched, Replays, asks_for_steps, status_for}
+use Rattle.lispheap.specs.Generating.{EndsGenerating, Generates, IsGenerate}
+use Rattle.lispheap.specs.Texts.{status_of}
+
+-- no words are both
+pub apart : (words : List (List ℕ)) → IsReplay words → IsGenerate words → ⊥
+unfolding wanted wanted_after
+apart words (inl one) generate = false≢true (subst IsGenerate one generate)
+apart words (inr two) generate = false≢true (subst IsGenerate two generate)
+
+-- what a replay and the generator leave is how the call ends
+pub replay_failed : (f : Fault) (words : List (List ℕ)) (source out : Change) → IsReplay words → Replays (asks_for_steps words) (Some f) source out → Ends (Some f) words source out
+replay_failed faults.Usage words source out form r = absurd r
+replay_failed (faults.Line n why) words source out form r = (form, r)
+replay_failed faults.Read words source out form r = (form, r)
+replay_failed faults.Write words source out form r = inl (form, r)
+replay_failed faults.TooLong words source out form r = (form, r)
+replay_failed (faults.Limit kind) words source out form r = (form, r)
+replay_failed faults.Memory words source out form r = inl (form, r)
+
+pub generator_failed : (f : Fault) (words : List (List ℕ)) (source out : Change) → IsUntouched source → Generates words (Some f) out → Ends (Some f) words source out
+generator_failed faults.Usage words source out unread g = absurd g
+generator_failed (faults.Line n why) words source out unread g = absurd g
+generator_failed faults.Read words source out unread g = absurd g
+generator_failed faults.Write words source out unread g = inr (unread, g)
+generator_failed faults.TooLong words source out unread g = absurd g
+generator_failed (faults.Limit kind) words source out unread g = absurd g
+generator_failed faults.Memory words source out unread g = inr (unread, g)
+
+-- the form that an end tells of
+form_done : (words : List (List ℕ)) (source out : Change) → EndsEither None words source out → IsForm words
+form_done words source out (inl r) = inl r.0
+form_done words source out (inr g) = inr (ap is_some g.1.generated.words_ask)
+
+form_stopped : (words : List (List ℕ)) (source out : Change) → EndsEither (Some faults.Write) words source out → IsForm words
+form_stopped words source out (inl r) = inl r.0
+form_stopped words source out (inr g) = inr (ap is_some g.1.generated.words_ask)
+
+form_wanting : (words : List (List ℕ)) (source out : Change) → EndsEither (Some faults.Memory) words source out → IsForm words
+form_wanting words source out (inl r) = inl r.0
+form_wanting words source out (inr g) = inr g.1.0
+
+usage_told : (f : Option Fault) (words : List (List ℕ)) (source out : Change) (status : ℕ) → status ≡ status_of f → Ends f words source out → (status ≡ 2) ↔ (¬ IsForm words)
+usage_told None words source out status is ends = (λ e. absurd (omega arith), λ not. absurd (not (form_done words source out ends)))
+usage_told (Some faults.Usage) words source out status is ends = (λ e. ends.0, λ not. is)
+usage_told (Some (faults.Line n why)) words source out status is ends = (λ e. absurd (omega arith), λ not. absurd (not (inl ends.0)))
+usage_told (Some faults.Read) words source out status is ends = (λ e. absurd (omega arith), λ not. absurd (not (inl ends.0)))
+usage_told (Some faults.Write) words source out status is ends = (λ e. absurd (omega arith), λ not. absurd (not (form_stopped words source out ends)))
+usage_told (Some faults.TooLong) words source out status is ends = (λ e. absurd (omega arith), λ not. absurd (not (inl ends.0)))
+usage_told (Some (faults.Limit kind)) words source out status is ends = (λ e. absurd (omega arith), λ not. absurd (not (inl ends.0)))
+usage_told (Some faults.Memory) words source out status is ends = (λ e. absurd (omega arith), λ not. absurd (not (form_wanting words source out ends)))
+
+pub usage_of : (words : List (List ℕ)) (source out err : Change) (status : ℕ) → Answers words source out err status → (status ≡ 2) ↔ (¬ IsForm words)
+usage_of words source out err status a = usage_told a.fault words source out status a.ended a.ends
+
+generator_told : (f : Option Fault) (words : List (List ℕ)) (source out : Change) (status : ℕ) → status ≡ status_of f → Ends f words source out → IsGenerate words
+    → EndsGenerating source out status
+generator_told None words source out status is (inl r) generate = absurd (apart words r.0 generate)
+generator_told None words source out status is (inr g) generate = record { unread = g.0; status_is = inl is; exact = λ sound. inl is }
+generator_told (Some faults.Usage) words source out status is ends generate = absurd (ends.0 (inr generate))
+generator_told (Some (faults.Line n why)) words source out status is ends generate = absurd (apart words ends.0 generate)
+generator_told (Some faults.Read) words source out status is ends generate = absurd (apart words ends.0 generate)
+generator_told (Some faults.Write) words source out status is (inl r) generate = absurd (apart words r.0 generate)
+generator_told (Some faults.Write) words source out status is (inr g) generate =
+    record { unread = g.0; status_is = inr (inl is); exact = λ sound. absurd (sound g.1.written.rose) }
+generator_told (Some faults.TooLong) words source out status is ends generate = absurd (apart words ends.0 generate)
+generator_told (Some (faults.Limit kind)) words source out status is ends generate = absurd (apart words ends.0 generate)
+generator_told (Some faults.Memory) words source out status is (inl r) generate = absurd (apart words r.0 generate)
+generator_told (Some faults.Memory) words source out status is (inr g) generate = record { unread = g.0; status_is = inr (inr is); exact = λ sound. inr is }
+
+pub generator_of : (words : List (List ℕ)) (source out err : Change) (status : ℕ) → Answers words source out err status → IsGenerate words → EndsGenerating source out status
+generator_of words source out err status a = generator_told a.fault words source out status a.ended a.ends
