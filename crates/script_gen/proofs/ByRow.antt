@@ -40,11 +40,11 @@ of_last gcs x P rows = where_it_holds P (draw x 1 4 == 0 && nat_lt gcs most_gene
 pub of_command : (gcs x q : ℕ) (P : Drawn → Type 0) → EachRow gcs x P → P (command_of gcs x q)
 unfolding command_of
 of_command gcs x q P rows =
-    by_choice P _ _ _ rows.conses (by_choice P _ _ _ rows.vectors (by_choice P _ _ _ rows.instances
-    (by_choice P _ _ _ rows.words (by_choice P _ _ _ rows.weak_pointers (by_choice P _ _ _ rows.tables
-    (by_choice P _ _ _ rows.gets (by_choice P _ _ _ rows.puts (by_choice P _ _ _ rows.moves
-    (by_choice P _ _ _ rows.nils (by_choice P _ _ _ rows.table_puts (by_choice P _ _ _ rows.table_gets
-    (by_choice P _ _ _ rows.addrs (by_choice P _ _ _ rows.finalizers (of_last gcs x P rows))))))))))))))
+    by_choice P (nat_lt q 6) _ _ rows.conses (by_choice P (q == 6) _ _ rows.vectors (by_choice P (q == 7) _ _ rows.instances
+    (by_choice P (q == 8) _ _ rows.words (by_choice P (q == 9) _ _ rows.weak_pointers (by_choice P (q == 10) _ _ rows.tables
+    (by_choice P (q == 11) _ _ rows.gets (by_choice P (q == 12) _ _ rows.puts (by_choice P (q == 13) _ _ rows.moves
+    (by_choice P (q == 14) _ _ rows.nils (by_choice P (q == 15) _ _ rows.table_puts (by_choice P (q == 16) _ _ rows.table_gets
+    (by_choice P (q == 17) _ _ rows.addrs (by_choice P (q == 18) _ _ rows.finalizers (of_last gcs x P rows))))))))))))))
 
 -- the rows at both ends
 pub first_row : (gcs x q : ℕ) → q < 6 → command_of gcs x q ≡ drawn (NewCons (cell_drawn x 1) (cell_drawn x 2) (cell_drawn x 3)) 3
