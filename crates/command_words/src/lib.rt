@@ -5,6 +5,8 @@
 mod forms;
 mod reading;
 mod seeds;
+#[cfg(test)]
+mod tests;
 
 pub use forms::is_generate;
 pub use reading::{Wanted, read_generate};

@@ -3,6 +3,8 @@
 
 mod counting;
 mod printing;
+#[cfg(test)]
+mod tests;
 
 pub use counting::summary;
 pub use heap_terms::Totals;

@@ -4,6 +4,7 @@ ghost use Rattle.std.specs.Prelude.{◌≤◌};
 
 mod collections;
 mod generations;
+mod generator;
 
 use crate::still::lispheap_still;
 use heap_io::{MemorySink, MemorySource};

@@ -5,5 +5,7 @@
 mod draws;
 mod generating;
 mod rows;
+#[cfg(test)]
+mod tests;
 
 pub use generating::generate;
