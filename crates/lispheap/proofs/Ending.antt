@@ -1,11 +1,14 @@
 -- How calls end, by the form of their words.
-use Rattle.std.proofs.Common.{◌≡◌, ℕ, ◌⊎◌, List, [], ◌∷◌, Option, Some, None, Bool, true, false, refl, ap, sym, ◌∙◌, subst, inl, inr, arith, codes, Result, Ok, Err, OnOk}
+use Rattle.std.proofs.Common.{◌≡◌, ℕ, ◌<◌, ◌≤◌, ◌⊎◌, ◌++◌, length, length-append, List, [], ◌∷◌, Option, Some, None, Bool, true, false, refl, ap, sym, ◌∙◌, subst, inl, inr, arith, codes, Result, Ok, Err, OnOk}
 use Rattle.std.specs.Prelude.{IfErr, ◌↔◌, is_some}
-use Rattle.std.proofs.lemmas.Bool.{false≢true}
+use Rattle.std.proofs.lemmas.Bool.{false≢true, le-ltb, lt-ltb}
 use Rattle.command_words.specs.Forms.{wanted, wanted_after}
+use Rattle.heap_terms.specs.declared.programs.Program.{Program}
+use Rattle.heap_terms.specs.ScriptReading.{read_script, Fault as ScriptFault, LineFault, LimitFault}
 use Rattle.lispheap.specs.declared.faults.Fault.{Fault}
 use Rattle.lispheap.specs.declared.faults.Fault.TheVariants as faults
-use Rattle.lispheap.specs.Answers.{Change, Answers, Ends, EndsEither, Failed, IsExact, IsForm, IsReplay, IsUntouched, Replays, asks_for_steps, status_for}
+use Rattle.lispheap.specs.Answers.{Change, Answers, Ends, EndsEither, Failed, IsExact, IsForm, IsReplay, IsUntouched, Replays, asks_for_steps, input_limit, status_for, status_read}
+use Rattle.lispheap.specs.Journals.{IsJournal}
 use Rattle.lispheap.specs.Generating.{EndsGenerating, Generates, IsGenerate}
 use Rattle.lispheap.specs.Texts.{status_of}
 
@@ -16,7 +19,7 @@ apart words (inl one) generate = false≢true (subst IsGenerate one generate)
 apart words (inr two) generate = false≢true (subst IsGenerate two generate)
 
 -- what a replay and the generator leave is how the call ends
-pub replay_failed : (f : Fault) (words : List (List ℕ)) (source out : Change) → IsReplay words → Replays (asks_for_steps words) (Some f) source out → Ends (Some f) words source out
+pub replay_failed : (f : Fault) (words : List (List ℕ)) (source out : Change) → IsReplay words → Replays (IsJournal (asks_for_steps words)) (Some f) source out → Ends (Some f) words source out
 replay_failed faults.Usage words source out form r = absurd r
 replay_failed (faults.Line n why) words source out form r = (form, r)
 replay_failed faults.Read words source out form r = (form, r)
@@ -77,3 +80,39 @@ generator_told (Some faults.Memory) words source out status is (inr g) generate 
 
 pub generator_of : (words : List (List ℕ)) (source out err : Change) (status : ℕ) → Answers words source out err status → IsGenerate words → EndsGenerating source out status
 generator_of words source out err status a = generator_told a.fault words source out status a.ended a.ends
+
+-- the status that bytes ask for, where they were taken whole
+read_status : (input bytes : List ℕ) → input ≡ bytes → length input ≤ input_limit → status_for bytes ≡ status_read (read_script input)
+read_status input bytes same within = ap status_for (sym same) ∙ rw (le-ltb input_limit (length input) within) refl
+
+read_so : (input bytes : List ℕ) (r : Result Program ScriptFault) (status : ℕ) → input ≡ bytes → length input ≤ input_limit → read_script input ≡ r → status ≡ status_read r
+    → status ≡ status_for bytes
+read_so input bytes r status same within read is = is ∙ ap status_read (sym read) ∙ sym (read_status input bytes same within)
+
+too_long : (bytes front rest : List ℕ) → bytes ≡ front ++ rest → input_limit < length front → status_for bytes ≡ 6
+too_long bytes front rest whole more =
+    let len = ap length whole ∙ length-append front rest in
+    let above : input_limit < length bytes = omega (arith, len, more) in
+    rw (lt-ltb input_limit (length bytes) above) refl
+
+exact_told : (f : Option Fault) (words : List (List ℕ)) (source out : Change) (status : ℕ) → status ≡ status_of f → Ends f words source out → IsExact words source out status
+exact_told None words source out status is (inl r) bytes form told source_sound out_sound =
+    inl (read_so r.1.input bytes (Ok r.1.journal.program) status (r.1.taken.whole bytes told).0 r.1.taken.within r.1.journal.read is)
+exact_told None words source out status is (inr g) bytes form told source_sound out_sound = absurd (apart words form (ap is_some g.1.generated.words_ask))
+exact_told (Some faults.Usage) words source out status is ends bytes form told source_sound out_sound = absurd (ends.0 (inl form))
+exact_told (Some (faults.Line n why)) words source out status is ends bytes form told source_sound out_sound =
+    let refused = ends.1.0 in
+    inl (read_so refused.input bytes (Err (LineFault n why)) status (refused.taken.whole bytes told).0 refused.taken.within refused.read is)
+exact_told (Some faults.Read) words source out status is ends bytes form told source_sound out_sound = absurd (source_sound ends.1.0)
+exact_told (Some faults.Write) words source out status is (inl r) bytes form told source_sound out_sound = absurd (out_sound r.1.written.rose)
+exact_told (Some faults.Write) words source out status is (inr g) bytes form told source_sound out_sound = absurd (out_sound g.1.written.rose)
+exact_told (Some faults.TooLong) words source out status is ends bytes form told source_sound out_sound =
+    let taken = ends.1.0 bytes told in
+    inl (is ∙ sym (too_long bytes taken.0 taken.1.0 taken.1.1.0 taken.1.1.1.1))
+exact_told (Some (faults.Limit kind)) words source out status is ends bytes form told source_sound out_sound =
+    let refused = ends.1.0.1 in
+    inl (read_so refused.input bytes (Err (LimitFault ends.1.0.0 kind)) status (refused.taken.whole bytes told).0 refused.taken.within refused.read is)
+exact_told (Some faults.Memory) words source out status is ends bytes form told source_sound out_sound = inr is
+
+pub exact_of : (words : List (List ℕ)) (source out err : Change) (status : ℕ) → Answers words source out err status → IsExact words source out status
+exact_of words source out err status a = exact_told a.fault words source out status a.ended a.ends

@@ -36,20 +36,20 @@ TookTooMany source = GaveMore source.old.contents source.new.contents input_limi
 abbrev pub TookNotTooMany : Change → Type 0
 TookNotTooMany source = GaveAtMost source.old.contents source.new.contents input_limit
 
--- the source was read to its end, and the journal of what its bytes say was appended
-pub record Writes (steps : Bool) (source out : Change) : Type 0 where
+-- the source was read to its end, and a journal of what its bytes say was appended; which texts are its journals is asked
+pub record Writes (journals : List ℕ → List ℕ → Type 0) (source out : Change) : Type 0 where
   pub input : List ℕ
   pub taken : IsInput source input
   pub text : List ℕ
-  pub journal : IsJournal steps input text
+  pub journal : journals input text
   pub written : SaysAll text out
 
--- the source was read to its end, and the output stopped within the journal of what its bytes say
-pub record Stops (steps : Bool) (source out : Change) : Type 0 where
+-- the source was read to its end, and the output stopped within a journal of what its bytes say
+pub record Stops (journals : List ℕ → List ℕ → Type 0) (source out : Change) : Type 0 where
   pub input : List ℕ
   pub taken : IsInput source input
   pub text : List ℕ
-  pub journal : IsJournal steps input text
+  pub journal : journals input text
   pub written : StopsWithin text out
 
 -- the source was read to its end, and its bytes are no script, for this reason
@@ -88,16 +88,16 @@ IsUnwritten faults.TooLong text out = ⊥
 IsUnwritten (faults.Limit kind) text out = ⊥
 IsUnwritten faults.Memory text out = ⊥
 
--- how a replay ended, by what went wrong, if anything
-abbrev pub Replays : Bool → Option Fault → Change → Change → Type 0
-Replays steps None source out = Writes steps source out
-Replays steps (Some faults.Usage) source out = ⊥
-Replays steps (Some (faults.Line n why)) source out = IsRefused source (LineFault n why) × IsUntouched out
-Replays steps (Some faults.Read) source out = Failed source × TookNotTooMany source × IsUntouched out
-Replays steps (Some faults.Write) source out = Stops steps source out
-Replays steps (Some faults.TooLong) source out = TookTooMany source × IsUntouched out
-Replays steps (Some (faults.Limit kind)) source out = ((n : ℕ) × IsRefused source (LimitFault n kind)) × IsUntouched out
-Replays steps (Some faults.Memory) source out = TookNotTooMany source × IsUntouched out
+-- how a run of a script ended, by what went wrong, if anything
+abbrev pub Replays : (List ℕ → List ℕ → Type 0) → Option Fault → Change → Change → Type 0
+Replays journals None source out = Writes journals source out
+Replays journals (Some faults.Usage) source out = ⊥
+Replays journals (Some (faults.Line n why)) source out = IsRefused source (LineFault n why) × IsUntouched out
+Replays journals (Some faults.Read) source out = Failed source × TookNotTooMany source × IsUntouched out
+Replays journals (Some faults.Write) source out = Stops journals source out
+Replays journals (Some faults.TooLong) source out = TookTooMany source × IsUntouched out
+Replays journals (Some (faults.Limit kind)) source out = ((n : ℕ) × IsRefused source (LimitFault n kind)) × IsUntouched out
+Replays journals (Some faults.Memory) source out = TookNotTooMany source × IsUntouched out
 
 -- the words are one of the forms that the program knows
 abbrev pub IsForm : List (List ℕ) → Type 0
@@ -106,18 +106,18 @@ IsForm words = IsReplay words ⊎ IsGenerate words
 -- how a call ended where both kinds of forms can end so
 abbrev pub EndsEither : Option Fault → List (List ℕ) → Change → Change → Type 0
 EndsEither fault words source out =
-    (IsReplay words × Replays (asks_for_steps words) fault source out) ⊎ (IsUntouched source × Generates words fault out)
+    (IsReplay words × Replays (IsJournal (asks_for_steps words)) fault source out) ⊎ (IsUntouched source × Generates words fault out)
 
 -- How the call ended: the words are no form, and nothing was touched, or they are, and a replay ended so, or the
 -- generator, which takes nothing from the source.
 abbrev pub Ends : Option Fault → List (List ℕ) → Change → Change → Type 0
 Ends None words source out = EndsEither None words source out
 Ends (Some faults.Usage) words source out = (¬ IsForm words) × IsUntouched source × IsUntouched out
-Ends (Some (faults.Line n why)) words source out = IsReplay words × Replays (asks_for_steps words) (Some (faults.Line n why)) source out
-Ends (Some faults.Read) words source out = IsReplay words × Replays (asks_for_steps words) (Some faults.Read) source out
+Ends (Some (faults.Line n why)) words source out = IsReplay words × Replays (IsJournal (asks_for_steps words)) (Some (faults.Line n why)) source out
+Ends (Some faults.Read) words source out = IsReplay words × Replays (IsJournal (asks_for_steps words)) (Some faults.Read) source out
 Ends (Some faults.Write) words source out = EndsEither (Some faults.Write) words source out
-Ends (Some faults.TooLong) words source out = IsReplay words × Replays (asks_for_steps words) (Some faults.TooLong) source out
-Ends (Some (faults.Limit kind)) words source out = IsReplay words × Replays (asks_for_steps words) (Some (faults.Limit kind)) source out
+Ends (Some faults.TooLong) words source out = IsReplay words × Replays (IsJournal (asks_for_steps words)) (Some faults.TooLong) source out
+Ends (Some (faults.Limit kind)) words source out = IsReplay words × Replays (IsJournal (asks_for_steps words)) (Some (faults.Limit kind)) source out
 Ends (Some faults.Memory) words source out = EndsEither (Some faults.Memory) words source out
 
 -- the text was appended, or the stream stopped within it

@@ -88,7 +88,7 @@ fn answer<S: Source, K: Sink, E: Sink>(
 }
 
 /// Says what went wrong, and answers its status.
-fn report<E: Sink>(err: &mut E, fault: Fault) -> u8
+pub(crate) fn report<E: Sink>(err: &mut E, fault: Fault) -> u8
     ensures status { result ≡ status_of (Some fault) }
     ensures reports { Reports (Some fault)
         (change (E.state err.old) (E.state err.new)) }
@@ -152,10 +152,10 @@ fn replay<S: Source, K: Sink>(
     source: &mut S,
     out: &mut K,
 ) -> Result<(), Fault>
-    ensures done { OnOk result (Replays steps None
+    ensures done { OnOk result (Replays (IsJournal steps) None
         (change (S.state source.old) (S.state source.new))
         (change (K.state out.old) (K.state out.new))) }
-    ensures failed { IfErr result (λ fault. Replays steps (Some fault)
+    ensures failed { IfErr result (λ fault. Replays (IsJournal steps) (Some fault)
         (change (S.state source.old) (S.state source.new))
         (change (K.state out.old) (K.state out.new))) }
 {
@@ -178,7 +178,7 @@ pub(crate) fn write<K: Sink>(out: &mut K, text: &[u8]) -> Result<(), Fault>
 }
 
 /// Reads the source to its end.
-fn read<S: Source>(alloc: Global, source: &mut S) -> Result<Vec<u8>, Fault>
+pub(crate) fn read<S: Source>(alloc: Global, source: &mut S) -> Result<Vec<u8>, Fault>
     ensures read { IfOk result (λ bytes. IsInput
         (change (S.state source.old) (S.state source.new)) bytes.items) }
     ensures failed { IfErr result (λ fault. IsUnread fault
