@@ -2,6 +2,7 @@
 use Rattle.std.proofs.Common.{◌≡◌, ℕ, ◌<◌, ◌≤◌, ◌⊎◌, ◌++◌, length, length-append, List, [], ◌∷◌, Option, Some, None, Bool, true, false, refl, ap, sym, ◌∙◌, subst, inl, inr, arith, codes, Result, Ok, Err, OnOk}
 use Rattle.std.specs.Prelude.{IfErr, ◌↔◌, is_some}
 use Rattle.std.proofs.lemmas.Bool.{false≢true, le-ltb, lt-ltb}
+use Rattle.std.proofs.lemmas.Result.{IfErr-weaker}
 use Rattle.command_words.specs.Forms.{wanted, wanted_after}
 use Rattle.heap_terms.specs.declared.programs.Program.{Program}
 use Rattle.heap_terms.specs.ScriptReading.{read_script, Fault as ScriptFault, LineFault, LimitFault}
@@ -11,6 +12,7 @@ use Rattle.lispheap.specs.Answers.{Change, Answers, Ends, EndsEither, Failed, Is
 use Rattle.lispheap.specs.Journals.{IsJournal}
 use Rattle.lispheap.specs.Generating.{EndsGenerating, Generates, IsGenerate}
 use Rattle.lispheap.specs.Texts.{status_of}
+use Rattle.lispheap.proofs.Saying.{ok_from}
 
 -- no words are both
 pub apart : (words : List (List ℕ)) → IsReplay words → IsGenerate words → ⊥
@@ -108,7 +110,7 @@ exact_told (Some faults.Write) words source out status is (inl r) bytes form tol
 exact_told (Some faults.Write) words source out status is (inr g) bytes form told source_sound out_sound = absurd (out_sound g.1.written.rose)
 exact_told (Some faults.TooLong) words source out status is ends bytes form told source_sound out_sound =
     let taken = ends.1.0 bytes told in
-    inl (is ∙ sym (too_long bytes taken.0 taken.1.0 taken.1.1.0 taken.1.1.1.1))
+    inl (is ∙ sym (too_long bytes taken.0 taken.1 taken.2 taken.4))
 exact_told (Some (faults.Limit kind)) words source out status is ends bytes form told source_sound out_sound =
     let refused = ends.1.0.1 in
     inl (read_so refused.input bytes (Err (LimitFault ends.1.0.0 kind)) status (refused.taken.whole bytes told).0 refused.taken.within refused.read is)
@@ -116,3 +118,26 @@ exact_told (Some faults.Memory) words source out status is ends bytes form told 
 
 pub exact_of : (words : List (List ℕ)) (source out err : Change) (status : ℕ) → Answers words source out err status → IsExact words source out status
 exact_of words source out err status a = exact_told a.fault words source out status a.ended a.ends
+
+-- ---- by what a replay and the generator answer
+
+pub replay_answers : (r : Result (Unit {0}) Fault) (steps : Bool) (words : List (List ℕ)) (source out : Change) → IsReplay words → steps ≡ asks_for_steps words
+    → OnOk r (Replays (IsJournal steps) None source out) → OnOk r (Ends None words source out)
+replay_answers r steps words source out form same done = ok_from r (λ h. inl (form, subst (λ b. Replays (IsJournal b) None source out) same h)) done
+
+pub replay_refuses : (r : Result (Unit {0}) Fault) (steps : Bool) (words : List (List ℕ)) (source out : Change) → IsReplay words → steps ≡ asks_for_steps words
+    → IfErr r (λ f. Replays (IsJournal steps) (Some f) source out) → IfErr r (λ f. Ends (Some f) words source out)
+replay_refuses r steps words source out form same failed =
+    IfErr-weaker r _ _ (λ f h. replay_failed f words source out form (subst (λ b. Replays (IsJournal b) (Some f) source out) same h)) failed
+
+pub generator_answers : (r : Result (Unit {0}) Fault) (words : List (List ℕ)) (source out : Change) → IsUntouched source
+    → OnOk r (Generates words None out) → OnOk r (Ends None words source out)
+generator_answers r words source out unread done = ok_from r (λ h. inr (unread, h)) done
+
+pub generator_refuses : (r : Result (Unit {0}) Fault) (words : List (List ℕ)) (source out : Change) → IsUntouched source
+    → IfErr r (λ f. Generates words (Some f) out) → IfErr r (λ f. Ends (Some f) words source out)
+generator_refuses r words source out unread failed = IfErr-weaker r _ _ (λ f h. generator_failed f words source out unread h) failed
+
+pub no_form : (words : List (List ℕ)) (a b : Bool) → (IsReplay words → a ≡ true) → a ≡ false → b ≡ is_some (wanted words) → b ≡ false → ¬ IsForm words
+no_form words a b replay not told none (inl form) = false≢true (sym not ∙ replay form)
+no_form words a b replay not told none (inr form) = false≢true (sym none ∙ told ∙ form)
