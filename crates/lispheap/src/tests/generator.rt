@@ -45,7 +45,10 @@ fn the_scripts_of_seeds_are_those_of_a_second_program(rt: HostRuntime) -> Result
 fn the_summary_of_a_seed_is_the_same_twice(rt: HostRuntime) -> Result<(), Fail> {
     let first = written(&rt, rt.alloc(), &["gen", "--seed", "1"])?;
     assert!(rt; first.starts_with(b"threads 4\npages 64\ncommands 1600\nevents ".as_slice()));
-    for words in [["gen", "--seed", "1"].as_slice(), ["gen", "--seed=01"].as_slice()] {
+    for words in [
+        ["gen", "--seed", "1"].as_slice(),
+        ["gen", "--seed=01"].as_slice(),
+    ] {
         assert!(rt; written(&rt, rt.alloc(), words)? == first);
     }
     Ok(())
@@ -56,6 +59,31 @@ fn lines_with(journal: &str, begin: &str, inside: &str) -> u64 {
     let mut count: u64 = 0;
     for line in journal.lines() {
         if line.starts_with(begin) && line.contains(inside) {
+            count = count.saturating_add(1);
+        }
+    }
+    count
+}
+
+/// The events of a journal, by its last line.
+fn events_in(journal: &str) -> u64 {
+    let mut count: u64 = 0;
+    for line in journal.lines() {
+        if line.starts_with("done ") {
+            let mut fields = line.split(' ');
+            let _word = fields.next();
+            let number = fields.next().and_then(|field| field.parse::<u64>().ok());
+            count = number.unwrap_or(0);
+        }
+    }
+    count
+}
+
+/// The objects that were made: each answer that is a name and a place.
+fn objects_in(journal: &str) -> u64 {
+    let mut count: u64 = 0;
+    for line in journal.lines() {
+        if line.contains(" -> #") && line.contains(" @") {
             count = count.saturating_add(1);
         }
     }
@@ -84,7 +112,9 @@ fn twenty_summaries_are_the_counts_of_their_journals(rt: HostRuntime) -> Result<
         let script = written(&rt, alloc, &["gen", "--seed", seed.as_str(), "--script"])?;
         let got = outcome_of(alloc, &["replay"], &script, WHOLE)?;
         assert_eq!(rt; got.status, 0);
-        let journal = String::from_utf8(Vec::from_slice(alloc, got.out.bytes())?).expect(&rt, "text");
+        let journal = String::from_utf8(Vec::from_slice(alloc, got.out.bytes())?).expect(
+            &rt, "text",
+        );
         let expected = counted(alloc, journal.as_str())?;
         assert!(rt; summary.as_slice() == expected.as_bytes(), "{seed}");
     }
@@ -93,11 +123,11 @@ fn twenty_summaries_are_the_counts_of_their_journals(rt: HostRuntime) -> Result<
 
 /// The summary that a journal of a generated script gives, by its lines.
 fn counted(alloc: Global, journal: &str) -> Result<String, Fail> {
-    let events = lines_with(journal, "", " -> ") + lines_with(journal, "", " open ");
-    let events = events + lines_with(journal, "", " collect ") + lines_with(journal, "", " end");
-    Ok(format!(in alloc; "threads 4\npages 64\ncommands 1600\nevents {}\nobjects {}\ncollections {}\npasses {}\nmoved {}\npinned {}\nstayed {}\ndead {}\nculled {}\nbroken {}\nqueued {}\nfreed {}\n",
+    let events = events_in(journal);
+    Ok(format!(in alloc;
+        "threads 4\npages 64\ncommands 1600\nevents {}\nobjects {}\ncollections {}\npasses {}\nmoved {}\npinned {}\nstayed {}\ndead {}\nculled {}\nbroken {}\nqueued {}\nfreed {}\n",
         events,
-        lines_with(journal, "", " -> #0 @") + lines_with(journal, "", " @"),
+        objects_in(journal),
         lines_with(journal, "", " collect "),
         lines_with(journal, "pass ", ""),
         lines_with(journal, "move ", ""),
@@ -107,11 +137,14 @@ fn counted(alloc: Global, journal: &str) -> Result<String, Fail> {
         lines_with(journal, "cull ", ""),
         lines_with(journal, "break ", ""),
         lines_with(journal, "queue ", ""),
-        lines_with(journal, "free ", ""))?)
+        lines_with(journal, "free ", "")
+    )?)
 }
 
 #[test]
-fn the_generator_reads_nothing_and_stops_where_the_output_fails(rt: HostRuntime) -> Result<(), Fail> {
+fn the_generator_reads_nothing_and_stops_where_the_output_fails(
+    rt: HostRuntime,
+) -> Result<(), Fail> {
     let alloc = rt.alloc();
     // The source would fail at its first call.
     let unread = Streams {

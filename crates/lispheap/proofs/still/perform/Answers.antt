@@ -22,7 +22,9 @@ returns-then-is_generate g c = record {
 pub returns : goal.returns
 returns g c = record {
   done = tt;
-  failed =
-      (no_form (map string_bytes c.args.words.now) c.is_replay.result c.is_generate.result c.is_replay.ensures.1 c.if-is_replay.false c.is_generate.ensures c.if-is_generate.false,
-      record { bytes = refl; faults = refl }, record { bytes = refl; faults = refl });
+  failed = (
+    no_form (map string_bytes c.args.words.now) c.is_replay.result c.is_generate.result c.is_replay.ensures.1 c.if-is_replay.false c.is_generate.ensures c.if-is_generate.false,
+    record { bytes = refl; faults = refl },
+    record { bytes = refl; faults = refl },
+  );
 }
