@@ -23,6 +23,10 @@ pub record RegionView : Type 0 where
 abbrev pub opened_region : PageType → ℕ → ℕ → RegionView
 opened_region ty first pages = record { ty = ty; first = first; pages = pages; next = page_words * first; built = [] }
 
+-- a region that is filled up to an index
+abbrev pub reopened_region : PageType → ℕ → ℕ → ℕ → RegionView
+reopened_region ty first pages next = record { ty = ty; first = first; pages = pages; next = next; built = [] }
+
 -- the index after a region's last word
 abbrev pub end_of : RegionView → ℕ
 end_of r = page_words * (r.first + r.pages)

@@ -6,7 +6,7 @@ ghost use Rattle.heap_terms.specs.Fresh.{fresh_contents, IsBuildable};
 ghost use Rattle.heap_terms.specs.Layout.{page_words, page_type_of};
 ghost use Rattle.heap_terms.specs.Layout as layout;
 ghost use Rattle.heap_terms.specs.Spelling.{spelling};
-ghost use Rattle.alloc_region.specs.View.{opened_region, end_of, largest_object};
+ghost use Rattle.alloc_region.specs.View.{opened_region, reopened_region, end_of, largest_object};
 
 use crate::buffer::Buffer;
 use heap_terms::{Kind, Memory, PAGE_WORDS, PageType};
@@ -56,12 +56,31 @@ impl Region {
         requires most { first + pages ≤ MOST_PAGES }
         ensures { IfOk result (λ region. region ≡ opened_region ty first pages) }
     {
+        Region::reopen(alloc, ty, first, pages, PAGE_WORDS * first)
+    }
+
+    /// A region of at least one page that is filled up to an index, as one was that was closed: the
+    /// next object begins there. It reserves the same room as a region that is opened, and is
+    /// refused only for want of memory.
+    pub fn reopen(
+        alloc: Global,
+        ty: PageType,
+        first: u32,
+        pages: u32,
+        next: u32,
+    ) -> Result<Region, Memory>
+        requires least { 1 ≤ pages }
+        requires most { first + pages ≤ MOST_PAGES }
+        requires begun { page_words * first ≤ next }
+        requires within { next ≤ page_words * (first + pages) }
+        ensures { IfOk result (λ region. region ≡ reopened_region ty first pages next) }
+    {
         let buffer = Buffer::new(alloc, largest_object(ty, pages) as usize)?;
         Ok(Region {
             ty,
             first,
             pages,
-            next: PAGE_WORDS * first,
+            next,
             buffer,
         })
     }

@@ -70,3 +70,14 @@ fn a_large_run_holds_one_large_object(rt: HostRuntime) -> Result<(), Fail> {
     assert!(rt; are_sevens && largest == 65536 && room == 512 && closed.next == 65536);
     Ok(())
 }
+
+#[test]
+fn a_region_is_opened_again_where_it_was_filled_to(rt: HostRuntime) -> Result<(), Fail> {
+    let mut region = Region::reopen(rt.alloc(), PageType::Cons, 3, 1, 1538)?;
+    region.build(Kind::Cons, 2, 0);
+    region.accept();
+    let (next, room) = (region.next(), region.room());
+    let closed = region.close();
+    assert!(rt; next == 1540 && room == 508 && closed.next == 1540);
+    Ok(())
+}

@@ -78,7 +78,7 @@ module _ (h : Rooted) (words : List ℕ) (pages : List Entry) (exact ambiguous :
   held-long = ap (λ (v : RoomView). v.pages) view_is ∙ can.reserved.pages_are
 
   pub can-trace : (starts now : List ℕ) (notes : PassNotes) → AreHitStarts h.heap pass.generation ambiguous starts → now ≡ exact → AreCleared r.notes notes →
-      CanTrace h words pages r.marks starts pass now notes
+      CanTrace h words pages r.marks starts pass now notes r.weak
   can-trace starts now notes s same cleared =
       let held = held-long in
       let long = can.stand.words_stand.long in
@@ -102,4 +102,18 @@ module _ (h : Rooted) (words : List ℕ) (pages : List Entry) (exact ambiguous :
         pinned = pinned-starts h exact ambiguous can.stand.roots pass.generation starts s;
         ambiguous = ambiguous;
         roots = subst (λ (ws : List ℕ). RootsStand h ws ambiguous) (sym same) can.stand.roots;
+        none = room.weak;
+        room = (let most : r.weak.most ≡ view.weak = ap (λ (v : RoomView). v.weak) view_is in let weak = can.reserved.weak_enough in omega arith);
+        no_culls = cleared.culls;
+        no_breaks = cleared.breaks;
+        culls_room = (let most : r.weak.most ≡ view.weak = ap (λ (v : RoomView). v.weak) view_is in
+            let weak = can.reserved.weak_enough in
+            let culls = room.notes.for_culls in
+            let kept = cleared.culls_room in
+            omega arith);
+        breaks_room = (let most : r.weak.most ≡ view.weak = ap (λ (v : RoomView). v.weak) view_is in
+            let weak = can.reserved.weak_enough in
+            let breaks = room.notes.for_breaks in
+            let kept = cleared.breaks_room in
+            omega arith);
       }

@@ -5,31 +5,30 @@ use Rattle.std.proofs.lemmas.List.{get_or_past}
 use Rattle.std.proofs.lemmas.List.Elements.{All-head, All-tail}
 use Rattle.std.specs.List.{range_with_len}
 use Rattle.std.specs.Prelude.{All, find, unwrap_or}
-use Rattle.heap_terms.specs.declared.cells.Value.{Value}
-use Rattle.heap_terms.specs.declared.cells.Value.TheVariants as values
 use Rattle.heap_terms.specs.declared.events.Placing.{Placing}
 use Rattle.heap_terms.specs.declared.pages.Entry.{Entry}
 use Rattle.heap_terms.specs.Heap.{NamedHeap, object_at}
-use Rattle.heap_terms.specs.Live.{is_live}
 use Rattle.heap_terms.specs.Objects.{Object}
 use Rattle.heap_terms.specs.Placement.{Placement, placement}
-use Rattle.heap_terms.specs.Slots.{Slot, Raw, Val, Side, Kept}
 use Rattle.heap_terms.specs.Sound.{IsSound}
 use Rattle.pass_laws.proofs.Spreading.{IsMoveOf}
 use Rattle.copy_space.specs.declared.marks.Mark.{Mark}
 use Rattle.copy_space.specs.declared.notes.Move.{Move}
 use Rattle.copy_space.specs.declared.notes.Pass.{Pass}
+use Rattle.copy_space.specs.declared.notes.PassNotes.{PassNotes}
 use Rattle.copy_space.specs.declared.placing.PagesInUse.{PagesInUse}
-use Rattle.copy_space.specs.Midway.{IsPlacedSoFar, StandsMidway}
+use Rattle.copy_space.specs.Midway.{IsPlacedSoFar}
 use Rattle.copy_space.specs.Moved.{noted}
-use Rattle.copy_space.specs.Settled.{is_settled, settles, word_now, IsNewWord}
+use Rattle.copy_space.specs.Settled.{is_settled}
 use Rattle.copy_space.specs.State.{CopyState}
 use Rattle.copy_space.proofs.Names.{same_name}
 use Rattle.copy_space.proofs.Referents.{ms, its}
+use Rattle.finalizers.specs.Lists.{Lists}
+use Rattle.finalizers.specs.Sweeping.{IsSwept}
 use Rattle.trace_laws.specs.Rooted.{Rooted}
 use Rattle.trace_laws.specs.Traced.{IsTraced}
 use Rattle.trace_laws.proofs.Moves.{moves-named}
-use Rattle.collect_pass.specs.Tracing.{begins_at, name_at, moved_names, in_use_after, end_state}
+use Rattle.collect_pass.specs.Tracing.{AreTraceNotes, begins_at, name_at, moved_names, in_use_after, end_state}
 
 -- the only number of a range that passes a test is found
 find-only : (p : ℕ → Bool) (from n x : ℕ) → p x ≡ true → from ≤ x → x < from + n → ((y : ℕ) → p y ≡ true → y ≡ x) → find p (range_with_len from n) ≡ Some x
@@ -73,74 +72,64 @@ in-use-is a s p =
     ap using p.placed.on_pages ∙ ap (λ (o : List ℕ). using (placement a o)) (sym order)
 
 -- the room for moves is of no account
-abbrev roomy : CopyState → CopyState
-roomy s = record s { room = length s.marks }
-
-new-word : (a : NamedHeap) (s : CopyState) (v : Value) (word : ℕ) → IsNewWord a s v word → IsNewWord a (roomy s) v word
-new-word a s v word n = record { settled = live-same v n.settled; is = n.is ∙ word-same v }
-  where
-    live-same : (v : Value) → is_live (is_settled a s) v ≡ true → is_live (is_settled a (roomy s)) v ≡ true
-    live-same (values.Fix n) e = refl
-    live-same values.Nil e = refl
-    live-same values.Unbound e = refl
-    live-same (values.Ref x) e = go (object_at a.objects x) e
-      where
-        go : (q : Option Object) → settles s q ≡ true → settles (roomy s) q ≡ true
-        go None f = f
-        go (Some o) f = f
-
-    word-same : (v : Value) → word_now a s v ≡ word_now a (roomy s) v
-    word-same v = refl
-
-stands-roomy : (a : NamedHeap) (s : CopyState) (slot : Slot) (word : ℕ) → StandsMidway a s slot word → StandsMidway a (roomy s) slot word
-stands-roomy a s (Raw w) word e = e
-stands-roomy a s (Val v) word (inl before) = inl before
-stands-roomy a s (Val v) word (inr now) = inr (new-word a s v word now)
-stands-roomy a s (Side v) word e = e
-stands-roomy a s Kept word e = tt
-
 with-room : (h : Rooted) (s : CopyState) (exact : List ℕ) → IsTraced h s exact → IsTraced h (record s { room = length s.marks }) exact
 with-room h s exact t = record {
-  midway = record {
-    places = record {
-      sound = t.midway.places.sound;
-      generation = t.midway.places.generation;
-      most = t.midway.places.most;
-      long = t.midway.places.long;
-      marks_long = t.midway.places.marks_long;
-      room = omega arith;
-      order = t.midway.places.order;
-      once = t.midway.places.once;
-      met = t.midway.places.met;
-      placed = record { on_pages = t.midway.places.placed.on_pages; moves = t.midway.places.placed.moves };
-      pins = t.midway.places.pins;
-      unpinned = t.midway.places.unpinned;
-      marks = t.midway.places.marks;
-      counted = t.midway.places.counted;
-      forwards = t.midway.places.forwards;
-      owned = t.midway.places.owned;
-      fillers = t.midway.places.fillers;
-    };
-    spelled = record {
-      slots = λ name o e i slot f. stands-roomy h.heap s slot _ (t.midway.spelled.slots name o e i slot f);
-      kept = t.midway.spelled.kept;
-    };
+  places = record {
+    sound = t.places.sound;
+    generation = t.places.generation;
+    most = t.places.most;
+    long = t.places.long;
+    marks_long = t.places.marks_long;
+    room = omega arith;
+    order = t.places.order;
+    once = t.places.once;
+    met = t.places.met;
+    placed = record { on_pages = t.places.placed.on_pages; moves = t.places.placed.moves };
+    pins = t.places.pins;
+    unpinned = t.places.unpinned;
+    marks = t.places.marks;
+    counted = t.places.counted;
+    forwards = t.places.forwards;
+    owned = t.places.owned;
+    fillers = t.places.fillers;
   };
   pins = t.pins;
-  scanned = λ name o e settled i v f. new-word h.heap s v _ (t.scanned name o e (settled-back (object_at h.heap.objects name) settled) i v f);
+  keeps = t.keeps;
+  stands = λ name o there settled. (let stands = t.stands name o there settled in record { slots = stands.slots; kept = stands.kept });
   exact_now = t.exact_now;
   exact_live = t.exact_live;
   least = t.least;
 }
-  where
-    settled-back : (q : Option Object) → settles (roomy s) q ≡ true → settles s q ≡ true
-    settled-back None f = f
-    settled-back (Some o) f = f
 
 pub traced-end : (h : Rooted) (s : CopyState) (exact words : List ℕ) (pages : List Entry) (marks : List Mark) (pins : List ℕ) (pass : Pass) (moves : List Move) → IsTraced h s exact →
     words ≡ s.words → pages ≡ s.pages → marks ≡ s.marks → pins ≡ s.pins → pass ≡ s.pass → moves ≡ s.moves → IsTraced h (end_state h.heap words pages marks pins pass moves) exact
 unfolding end_state
 traced-end h s exact words pages marks pins pass moves t words_are pages_are marks_are pins_are pass_is moves_are =
-    let use_is : s.in_use ≡ in_use_after h.heap moves = in-use-is h.heap s t.midway.places ∙ ap (in_use_after h.heap) (sym moves_are) in
+    let use_is : s.in_use ≡ in_use_after h.heap moves = in-use-is h.heap s t.places ∙ ap (in_use_after h.heap) (sym moves_are) in
     let same : record s { room = length s.marks } ≡ end_state h.heap words pages marks pins pass moves = cc in
     subst (λ (u : CopyState). IsTraced h u exact) same (with-room h s exact t)
+
+-- what is settled is told by the marks and the pass
+pub settled-end : (a : NamedHeap) (s : CopyState) (words : List ℕ) (pages : List Entry) (marks : List Mark) (pins : List ℕ) (pass : Pass) (moves : List Move) → marks ≡ s.marks → pass ≡ s.pass →
+    is_settled a (end_state a words pages marks pins pass moves) ≡ is_settled a s
+unfolding end_state
+settled-end a s words pages marks pins pass moves marks_are pass_is =
+    subst (λ (m : List Mark). is_settled a (end_state a words pages m pins pass moves) ≡ is_settled a s) (sym marks_are)
+    (subst (λ (p : Pass). is_settled a (end_state a words pages s.marks pins p moves) ≡ is_settled a s) (sym pass_is) refl)
+
+pub told-end : (a : NamedHeap) (z u : CopyState) (words : List ℕ) (pages : List Entry) (marks : List Mark) (pins : List ℕ) (pass : Pass) (moves : List Move) (old ended new : PassNotes) →
+    AreTraceNotes a (is_settled a z) old ended → u ≡ record z { words = u.words } → marks ≡ u.marks → pass ≡ u.pass → new ≡ ended →
+    AreTraceNotes a (is_settled a (end_state a words pages marks pins pass moves)) old new
+told-end a z u words pages marks pins pass moves old ended new told same marks_are pass_is notes_are =
+    let live : is_settled a u ≡ is_settled a z = subst (λ (x : CopyState). is_settled a x ≡ is_settled a z) (sym same) refl in
+    subst (λ (n : PassNotes). AreTraceNotes a (is_settled a (end_state a words pages marks pins pass moves)) old n) (sym notes_are)
+    (subst (λ (set : ℕ → Bool). AreTraceNotes a set old ended) (sym (settled-end a u words pages marks pins pass moves marks_are pass_is ∙ live)) told)
+
+-- and so is what is swept, by these and the moves
+pub swept-end : (a : NamedHeap) (s : CopyState) (words : List ℕ) (pages : List Entry) (marks : List Mark) (pins : List ℕ) (pass : Pass) (moves : List Move) (list : List (ℕ × ℕ)) (old new : Lists) →
+    IsSwept a s list old new → marks ≡ s.marks → pass ≡ s.pass → moves ≡ s.moves → IsSwept a (end_state a words pages marks pins pass moves) list old new
+unfolding end_state
+swept-end a s words pages marks pins pass moves list old new h marks_are pass_is moves_are =
+    subst (λ (m : List Mark). IsSwept a (end_state a words pages m pins pass moves) list old new) (sym marks_are)
+    (subst (λ (p : Pass). IsSwept a (end_state a words pages s.marks pins p moves) list old new) (sym pass_is)
+    (subst (λ (ms : List Move). IsSwept a (end_state a words pages s.marks pins s.pass ms) list old new) (sym moves_are) (record { registered = h.registered; queue = h.queue })))

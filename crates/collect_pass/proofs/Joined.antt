@@ -16,7 +16,7 @@ use Rattle.copy_space.specs.State.{CopyState}
 use Rattle.page_sweep.specs.Swept.{IsSwept}
 use Rattle.trace_laws.specs.Ends.{IsEnd}
 use Rattle.trace_laws.specs.Rooted.{Rooted, RootsStand, StandFor, IsExactRoot}
-use Rattle.trace_laws.specs.Traced.{IsTraced, IsStrongHeap}
+use Rattle.trace_laws.specs.Traced.{IsTraced}
 use Rattle.collect_pass.proofs.PagesAfter.{pages-after}
 use Rattle.collect_pass.proofs.RootsAfter.{map-same, ambiguous-after}
 use Rattle.collect_pass.proofs.WordsAfter.{words-after}
@@ -27,7 +27,7 @@ live-same f g same values.Nil = refl
 live-same f g same values.Unbound = refl
 live-same f g same (values.Ref x) = same x
 
-module _ (h : Rooted) (s : CopyState) (exact ambiguous before : List ℕ) (traced : IsTraced h s exact) (strong : IsStrongHeap h.heap) (roots : RootsStand h before ambiguous) (target : ℕ) (r : PassRecord)
+module _ (h : Rooted) (s : CopyState) (exact ambiguous before : List ℕ) (traced : IsTraced h s exact) (roots : RootsStand h before ambiguous) (target : ℕ) (r : PassRecord)
     (end : IsEnd h.heap s target r) (low : target ≤ 6) (words : List ℕ) (pages : List Entry) (freed : List ℕ) (swept : IsSwept h.heap s target words pages freed) where
   abbrev a : NamedHeap
   a = h.heap
@@ -46,16 +46,16 @@ module _ (h : Rooted) (s : CopyState) (exact ambiguous before : List ℕ) (trace
   pub roots-after : RootsStand (record { heap = after_pass a r; values = h.values }) exact ambiguous
   roots-after = record {
     exact_are = exact-after;
-    living = list_living_after a s.pass.generation target r traced.midway.places.sound end.is_pass h.values roots.living values-live;
+    living = list_living_after a s.pass.generation target r traced.places.sound end.is_pass h.values roots.living values-live;
     exact_names = names-after;
     hits = λ word high. roots.hits word high
-        ∙ ap (list_any (nat_eq word)) (sym (ambiguous-after a s.pass.generation target r traced.midway.places.sound end.is_pass));
+        ∙ ap (list_any (nat_eq word)) (sym (ambiguous-after a s.pass.generation target r traced.places.sound end.is_pass));
   }
 
   pub stand-after : StandFor (record { heap = after_pass a r; values = h.values }) words pages exact ambiguous
   stand-after = record {
-    sound = pass_sound a s.pass.generation target r traced.midway.places.sound end.is_pass (subst (λ (t : ℕ). t ≤ 6) (sym end.is_pass.target) low);
-    words_stand = words-after h s exact traced strong target r end words pages freed swept;
-    pages_are = pages-after a s traced.midway.places target r end words pages freed swept;
+    sound = pass_sound a s.pass.generation target r traced.places.sound end.is_pass (subst (λ (t : ℕ). t ≤ 6) (sym end.is_pass.target) low);
+    words_stand = words-after h s exact traced target r end words pages freed swept;
+    pages_are = pages-after a s traced.places target r end words pages freed swept;
     roots = roots-after;
   }

@@ -1,11 +1,16 @@
-pub mod Strong
+pub mod WeakCounts
+pub mod Survivors
 pub mod Orders
 pub mod PagesAfter
 pub mod WordsAfter
 pub mod RootsAfter
 pub mod Joined
 pub mod Evacuating
+pub mod Keeping
+pub mod SettlingLoop
 pub mod TracedNow
+pub mod Finished
 pub mod EndStates
 pub mod Begins
+pub mod Headed
 pub mod Passing

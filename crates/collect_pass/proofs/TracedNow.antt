@@ -1,6 +1,6 @@
--- Evacuating the exact roots and scanning what is older and what has moved comes to the end of tracing.
-use Rattle.std.proofs.Common.{◌≡◌, ◌≢◌, ℕ, ◌<◌, List, [], length, map, get_or, Option, Some, None, Bool, true, false, inl, inr, refl, sym, ◌∙◌, ap, subst, nat_eq, arith}
-use Rattle.std.proofs.lemmas.Bool.{cases_lt, cases_eq, cases_Bool, and_parts, eq-eqb, eqb-true, ne_eqb, false≢true}
+-- Evacuating the exact roots, scanning what is older, and settling what all that keeps comes to the end of settling.
+use Rattle.std.proofs.Common.{◌≡◌, ℕ, ◌<◌, List, [], length, map, get_or, Option, Some, None, Bool, true, inl, inr, refl, sym, ◌∙◌, ap, subst, nat_eq, arith}
+use Rattle.std.proofs.lemmas.Bool.{cases_lt, cases_eq, cases_Bool, and_parts, eq-eqb, eqb-true, false≢true}
 use Rattle.std.proofs.lemmas.List.{ext_get_or, get_or-map, get_or_past, length-map}
 use Rattle.std.specs.List.{list_any}
 use Rattle.std.specs.Prelude.{not, ◌||◌, ◌==◌}
@@ -18,23 +18,28 @@ use Rattle.copy_space.specs.Moved.{mark_for}
 use Rattle.copy_space.specs.Settled.{is_settled, settles, word_now, IsNewWord}
 use Rattle.copy_space.specs.State.{CopyState}
 use Rattle.copy_space.specs.Frames.{Grows}
-use Rattle.copy_space.proofs.FrameLaws.{Grows-on, new-word-stays, scanned-stays}
+use Rattle.copy_space.proofs.FrameLaws.{Grows-on, new-word-stays}
 use Rattle.copy_space.proofs.Names.{same_name}
 use Rattle.copy_space.proofs.Referents.{mark_is}
-use Rattle.scavenge.specs.Scanning.{Scans, OthersScanned, AllOfGenerationScanned}
+use Rattle.scavenge.specs.Scanning.{Scans}
 use Rattle.trace_laws.specs.Rooted.{Rooted, IsExactRoot, RootsStand}
-use Rattle.trace_laws.specs.Traced.{IsTraced, ArePinnedStarts, AllScanned, SettlesNoMore}
+use Rattle.trace_laws.specs.Traced.{ArePinnedStarts, SettlesNoMore}
 use Rattle.collect_pass.specs.Evacuated.{AreEvacuated}
 
--- a state at the end of tracing, with the pins and the pass of its start
+-- The end of settling: the pins are the pinned objects, the exact roots are settled and have their words after the pass, and
+-- nothing is settled that some closed set lacks. Pins and pass are those of the start.
 pub record IsEndOf (h : Rooted) (w z : CopyState) (exact : List ℕ) : Type 0 where
-  pub traced : IsTraced h z exact
+  pub midway : Midway h.heap z
+  pub pinned : ArePinnedStarts h.heap z.pass.generation z.pins
+  pub exact_now : exact ≡ map (word_now h.heap z) h.values
+  pub exact_live : (i : ℕ) → is_live (is_settled h.heap z) (get_or h.values i zero_value) ≡ true
+  pub least : SettlesNoMore h.heap z
   pub pins : w.pins ≡ z.pins
   pub pass : w.pass ≡ z.pass
+  pub room : z.room ≡ w.room
 
 module _ (h : Rooted) (w x y z : CopyState) (before exact ambiguous : List ℕ) (start : Midway h.heap w) (unmoved : w.moves ≡ []) (pinned : ArePinnedStarts h.heap w.pass.generation w.pins)
-    (roots : RootsStand h before ambiguous) (evacuated : AreEvacuated h w x exact) (older : Scans h.heap x y) (others : OthersScanned h.heap y) (all : Scans h.heap y z)
-    (own : AllOfGenerationScanned h.heap z) where
+    (roots : RootsStand h before ambiguous) (evacuated : AreEvacuated h w x exact) (older : Scans h.heap x y) (all : Scans h.heap y z) where
   abbrev a : NamedHeap
   a = h.heap
 
@@ -104,24 +109,13 @@ module _ (h : Rooted) (w x y z : CopyState) (before exact ambiguous : List ℕ) 
         | inr has ↦ settled-root set closed_w m has
       ]
 
-  all-scanned : AllScanned a z
-  all-scanned name o there settled = elim (cases_eq o.generation z.pass.generation) [
-    | inl same ↦ own name o there same settled
-    | inr apart ↦ (let same_y : z.pass.generation ≡ y.pass.generation = ap (λ (p : Pass). p.generation) all.follows.grows.pass in
-        let apart_y : o.generation ≢ y.pass.generation = λ same. apart (same ∙ sym same_y) in
-        let other : (o.generation == y.pass.generation) ≡ false = ne_eqb o.generation y.pass.generation apart_y in
-        let settled_y : is_settled a y name ≡ true = ap (settles y) there ∙ (rw other refl) in
-        scanned-stays a y z all.follows name o there settled_y (others name o there apart_y))
-  ]
-
   new-at : (i : ℕ) → i < length exact → IsNewWord a z (get_or h.values i zero_value) (get_or exact i 0)
   new-at i l = new-word-stays a x z x_on (get_or h.values i zero_value) (get_or exact i 0) (evacuated.each i l)
 
-  is_traced : IsTraced h z exact
-  is_traced = record {
+  pub all-settled : IsEndOf h w z exact
+  all-settled = record {
     midway = all.midway;
-    pins = subst (λ (pins : List ℕ). ArePinnedStarts a z.pass.generation pins) (sym w_on.pins) (subst (λ (g : ℕ). ArePinnedStarts a g w.pins) (sym same_generation) pinned);
-    scanned = all-scanned;
+    pinned = subst (λ (pins : List ℕ). ArePinnedStarts a z.pass.generation pins) (sym w_on.pins) (subst (λ (g : ℕ). ArePinnedStarts a g w.pins) (sym same_generation) pinned);
     exact_now = ext_get_or 0 exact (map (word_now a z) h.values) (evacuated.long ∙ sym (length-map h.values (word_now a z)))
         (λ i l. (new-at i l).is ∙ sym (get_or-map (word_now a z) h.values i zero_value 0 (let long = evacuated.long in omega arith)));
     exact_live = λ i. (elim (cases_lt i (length exact)) [
@@ -129,7 +123,7 @@ module _ (h : Rooted) (w x y z : CopyState) (before exact ambiguous : List ℕ) 
       | inr past ↦ (let none : get_or h.values i zero_value ≡ zero_value = get_or_past h.values i zero_value (let long = evacuated.long in omega arith) in rw none refl)
     ]);
     least = settles-no-more;
+    pins = sym w_on.pins;
+    pass = sym w_on.pass;
+    room = w_on.room;
   }
-
-  pub traced : IsEndOf h w z exact
-  traced = record { traced = is_traced; pins = sym w_on.pins; pass = sym w_on.pass }

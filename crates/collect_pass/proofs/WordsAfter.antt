@@ -1,19 +1,22 @@
 -- The words after the sweep stand for the heap after the pass.
-use Rattle.std.proofs.Common.{◌≡◌, ℕ, ◌+◌, ◌*◌, ◌<◌, ◌≤◌, List, Option, Some, None, Bool, true, false, refl, sym, ◌∙◌, ap, subst}
+use Rattle.std.proofs.Common.{◌≡◌, ℕ, ◌+◌, ◌*◌, ◌<◌, ◌≤◌, List, Option, Some, None, Bool, true, false, refl, sym, ◌∙◌, ap, subst, arith}
 use Rattle.std.proofs.lemmas.Option.{same_Some}
 use Rattle.std.specs.Prelude.{IfSome, slice_index, if◌then◌else◌}
 use Rattle.heap_terms.specs.declared.events.PassRecord.{PassRecord}
 use Rattle.heap_terms.specs.declared.pages.Entry.{Entry}
+use Rattle.heap_terms.specs.declared.kinds.Kind.{Kind}
 use Rattle.heap_terms.specs.Heap.{NamedHeap, object_at, entry_at, fill_of}
-use Rattle.heap_terms.specs.Objects.{Object, Contents, words_of_object}
+use Rattle.heap_terms.specs.Layout.{size_of}
+use Rattle.heap_terms.specs.Objects.{Object, Contents, kind_of, payload_of, words_of_object}
 use Rattle.heap_terms.specs.OnPages.{IsOwned}
 use Rattle.heap_terms.specs.Passes.{after_pass, remains}
 use Rattle.heap_terms.specs.Slots.{Slot, Raw, Val, Side, Kept, slot_at}
 use Rattle.heap_terms.specs.Stands.{StandsFor, SlotsStand, KeptStand, WordsStand}
-use Rattle.pass_laws.proofs.AfterPages.{pages_long}
-use Rattle.pass_laws.proofs.AfterPass.{object_then, remaining, remains_after}
+use Rattle.heap_terms.specs.Survival.{surviving}
+use Rattle.pass_laws.proofs.AfterPages.{pages_long, surviving-kind, surviving-payload}
+use Rattle.pass_laws.proofs.AfterPass.{IsShaped-surviving, object_then, remaining, remains_after}
 use Rattle.copy_space.specs.Midway.{IsPlacedSoFar}
-use Rattle.copy_space.specs.Moved.{new_of, now_at}
+use Rattle.copy_space.specs.Moved.{new_of, now_at, objects_now}
 use Rattle.copy_space.specs.Settled.{is_settled}
 use Rattle.copy_space.specs.State.{CopyState}
 use Rattle.copy_space.proofs.Shapes.{slot-below}
@@ -21,45 +24,63 @@ use Rattle.page_sweep.specs.Swept.{IsSwept, remaining_now}
 use Rattle.page_sweep.proofs.Remaining.{remaining-at}
 use Rattle.trace_laws.specs.Ends.{IsEnd}
 use Rattle.trace_laws.specs.Rooted.{Rooted}
-use Rattle.trace_laws.specs.Traced.{IsTraced, IsStrongHeap}
+use Rattle.trace_laws.specs.Traced.{IsTraced}
 use Rattle.collect_pass.proofs.Orders.{place-is}
 use Rattle.collect_pass.proofs.PagesAfter.{pages-after}
-use Rattle.collect_pass.proofs.Strong.{strong-survives, strong-plain}
+use Rattle.collect_pass.proofs.Survivors.{surviving-live}
 
-module _ (h : Rooted) (s : CopyState) (exact : List ℕ) (traced : IsTraced h s exact) (strong : IsStrongHeap h.heap) (target : ℕ) (r : PassRecord) (end : IsEnd h.heap s target r)
+module _ (h : Rooted) (s : CopyState) (exact : List ℕ) (traced : IsTraced h s exact) (target : ℕ) (r : PassRecord) (end : IsEnd h.heap s target r)
     (words : List ℕ) (pages : List Entry) (freed : List ℕ) (swept : IsSwept h.heap s target words pages freed) where
   abbrev a : NamedHeap
   a = h.heap
 
   abbrev p : IsPlacedSoFar h.heap s
-  p = traced.midway.places
+  p = traced.places
 
   lives : (x : ℕ) → remains a r x ≡ true → is_settled a s x ≡ true
   lives x e = sym (end.remains_are x) ∙ e
 
-  -- an object that remains is at its place now and holds what it held
+  -- an object that remains is at its place now and holds what survives of it
   place-then : (x : ℕ) (o : Object) → object_at a.objects x ≡ Some o → (object_then a r x o).place ≡ new_of s.moves o.place
   place-then x o e = place-is a s p target r end x o e
 
-  contents-then : (x : ℕ) (o : Object) → object_at a.objects x ≡ Some o → (object_then a r x o).contents ≡ o.contents
-  contents-then x o e = strong-survives (remains a r) o.contents (strong.objects x o e)
+  contents-then : (x : ℕ) (o : Object) → (object_then a r x o).contents ≡ surviving (is_settled a s) o.contents
+  contents-then x o = ap (λ (live : ℕ → Bool). surviving live o.contents) (λ i name. end.remains_are name i)
+
+  size-then : (x : ℕ) (o : Object) → words_of_object (object_then a r x o) ≡ words_of_object o
+  size-then x o =
+      ap (λ (k : Kind). size_of k (payload_of (surviving (remains a r) o.contents))) (surviving-kind (remains a r) o.contents)
+      ∙ ap (λ (n : ℕ). size_of (kind_of o.contents) n) (surviving-payload (remains a r) o.contents)
+
+  size-left : (o : Object) → words_of_object (record o { contents = surviving (is_settled a s) o.contents }) ≡ words_of_object o
+  size-left o =
+      ap (λ (k : Kind). size_of k (payload_of (surviving (is_settled a s) o.contents))) (surviving-kind (is_settled a s) o.contents)
+      ∙ ap (λ (n : ℕ). size_of (kind_of o.contents) n) (surviving-payload (is_settled a s) o.contents)
 
   -- its words stand for its slots
-  slots-stand : (x : ℕ) (o : Object) → object_at a.objects x ≡ Some o → is_settled a s x ≡ true → SlotsStand (after_pass a r).objects words (new_of s.moves o.place) o.contents
-  slots-stand x o e live i = go (slot_at o.contents i) refl
-    where
-      kept : (slot : Slot) → slot_at o.contents i ≡ Some slot → slice_index words (new_of s.moves o.place + i) ≡ slice_index s.words (new_of s.moves o.place + i)
-      kept slot f = swept.kept x o e live i (slot-below o.contents (p.sound.objects x o e).shape i slot f)
+  module _ (x : ℕ) (o : Object) (e : object_at a.objects x ≡ Some o) (live : is_settled a s x ≡ true) where
+    abbrev left : Contents
+    left = surviving (is_settled a s) o.contents
 
-      go : (q : Option Slot) → slot_at o.contents i ≡ q → IfSome q (λ slot. StandsFor (after_pass a r).objects slot (slice_index words (new_of s.moves o.place + i)))
-      go None f = tt
-      go (Some (Raw w)) f = kept (Raw w) f ∙ traced.midway.spelled.slots x o e i (Raw w) f
-      go (Some (Val v)) f = (let new = traced.scanned x o e live i v f in kept (Val v) f ∙ new.is ∙ sym (end.words v new.settled))
-      go (Some (Side v)) f = absurd (strong-plain o.contents (strong.objects x o e) i (Side v) f)
-      go (Some Kept) f = tt
+    kept-word : (i : ℕ) (slot : Slot) → slot_at left i ≡ Some slot → slice_index words (new_of s.moves o.place + i) ≡ slice_index s.words (new_of s.moves o.place + i)
+    kept-word i slot f =
+        let below = slot-below left (IsShaped-surviving (is_settled a s) o.contents (p.sound.objects x o e).shape) i slot f in
+        let size = size-left o in
+        swept.kept x o e live i (omega arith)
 
-  kept-stand : (x : ℕ) (o : Object) → object_at a.objects x ≡ Some o → is_settled a s x ≡ true → KeptStand words (new_of s.moves o.place) o.contents
-  kept-stand x o e live i f = absurd (strong-plain o.contents (strong.objects x o e) i Kept f)
+    slots-stand : SlotsStand (after_pass a r).objects words (new_of s.moves o.place) left
+    slots-stand i = go (slot_at left i) refl ((traced.stands x o e live).slots i)
+      where
+        go : (q : Option Slot) → slot_at left i ≡ q → IfSome q (λ slot. StandsFor (objects_now a s.moves) slot (slice_index s.words (new_of s.moves o.place + i))) →
+            IfSome q (λ slot. StandsFor (after_pass a r).objects slot (slice_index words (new_of s.moves o.place + i)))
+        go None f stands = tt
+        go (Some (Raw w)) f stands = kept-word i (Raw w) f ∙ stands
+        go (Some (Val v)) f stands = kept-word i (Val v) f ∙ stands ∙ sym (end.words v (surviving-live (is_settled a s) o.contents (traced.keeps x o e live) i (Val v) f))
+        go (Some (Side v)) f stands = kept-word i (Side v) f ∙ stands ∙ sym (end.words v (surviving-live (is_settled a s) o.contents (traced.keeps x o e live) i (Side v) f))
+        go (Some Kept) f stands = tt
+
+    kept-stand : KeptStand words (new_of s.moves o.place) left
+    kept-stand i f = kept-word i Kept f ∙ (traced.stands x o e live).kept i f
 
   spelled-after : (x : ℕ) → IfSome (object_at (after_pass a r).objects x) (λ o. SlotsStand (after_pass a r).objects words o.place o.contents)
   spelled-after x = go (object_at (after_pass a r).objects x) refl
@@ -68,12 +89,11 @@ module _ (h : Rooted) (s : CopyState) (exact : List ℕ) (traced : IsTraced h s 
       go None e = tt
       go (Some new) e =
           let was = remaining a s.pass.generation target r p.sound end.is_pass x new e in
-          let o = was.object in
           let stands = slots-stand x was.object was.there (lives x was.live) in
-          let placed : SlotsStand (after_pass a r).objects words (object_then a r x was.object).place was.object.contents =
-          subst (λ (place : ℕ). SlotsStand (after_pass a r).objects words place was.object.contents) (sym (place-then x was.object was.there)) stands in
+          let placed : SlotsStand (after_pass a r).objects words (object_then a r x was.object).place (surviving (is_settled a s) was.object.contents) =
+          subst (λ (place : ℕ). SlotsStand (after_pass a r).objects words place (surviving (is_settled a s) was.object.contents)) (sym (place-then x was.object was.there)) stands in
           let held : SlotsStand (after_pass a r).objects words (object_then a r x was.object).place (object_then a r x was.object).contents =
-          subst (λ (k : Contents). SlotsStand (after_pass a r).objects words (object_then a r x was.object).place k) (sym (contents-then x was.object was.there)) placed in
+          subst (λ (k : Contents). SlotsStand (after_pass a r).objects words (object_then a r x was.object).place k) (sym (contents-then x was.object)) placed in
           subst (λ (q : Object). SlotsStand (after_pass a r).objects words q.place q.contents) (sym was.is) held
 
   kept-after : (x : ℕ) → IfSome (object_at (after_pass a r).objects x) (λ o. KeptStand words o.place o.contents)
@@ -84,10 +104,10 @@ module _ (h : Rooted) (s : CopyState) (exact : List ℕ) (traced : IsTraced h s 
       go (Some new) e =
           let was = remaining a s.pass.generation target r p.sound end.is_pass x new e in
           let stands = kept-stand x was.object was.there (lives x was.live) in
-          let placed : KeptStand words (object_then a r x was.object).place was.object.contents =
-          subst (λ (place : ℕ). KeptStand words place was.object.contents) (sym (place-then x was.object was.there)) stands in
+          let placed : KeptStand words (object_then a r x was.object).place (surviving (is_settled a s) was.object.contents) =
+          subst (λ (place : ℕ). KeptStand words place (surviving (is_settled a s) was.object.contents)) (sym (place-then x was.object was.there)) stands in
           let held : KeptStand words (object_then a r x was.object).place (object_then a r x was.object).contents =
-          subst (λ (k : Contents). KeptStand words (object_then a r x was.object).place k) (sym (contents-then x was.object was.there)) placed in
+          subst (λ (k : Contents). KeptStand words (object_then a r x was.object).place k) (sym (contents-then x was.object)) placed in
           subst (λ (q : Object). KeptStand words q.place q.contents) (sym was.is) held
 
   -- what belongs to something that remains belongs to an object of the heap after the pass
@@ -102,7 +122,7 @@ module _ (h : Rooted) (s : CopyState) (exact : List ℕ) (traced : IsTraced h s 
           let is : q ≡ record o { place = new_of s.moves o.place } = sym (same_Some (record o { place = new_of s.moves o.place }) q f) in
           let from : new_of s.moves o.place ≤ i = subst (λ (t : Object). t.place ≤ i) is belongs.from in
           let below : i < new_of s.moves o.place + words_of_object o = subst (λ (t : Object). i < t.place + words_of_object t) is belongs.below in
-          let size : words_of_object (object_then a r x o) ≡ words_of_object o = ap (λ (k : Contents). words_of_object (record o { contents = k })) (contents-then x o e) in (
+          let size = size-then x o in (
             x,
             object_then a r x o,
             remains_after a s.pass.generation target r p.sound end.is_pass x o e (end.remains_are x ∙ live),

@@ -3,7 +3,7 @@
 ghost use Rattle.std.specs.Prelude.{◌≡◌, ◌≤◌, false};
 ghost use Rattle.heap_terms.specs.declared.limits.TheConstants.{OLDEST_COLLECTED};
 ghost use Rattle.heap_terms.specs.Policy.{target_of as target_after};
-ghost use Rattle.collect_pass.specs.Pass.{CanPass, IsPassDone};
+ghost use Rattle.collect_pass.specs.Pass.{CanPass, CanQueue, IsPassDone};
 ghost use Rattle.trace_laws.specs.Rooted.{Rooted};
 
 use crate::notes::{clear_notes, finish_notes};
@@ -11,6 +11,7 @@ use crate::room::PassRoom;
 use crate::tracing::trace;
 use ambiguous_roots::find_pins;
 use copy_space::{Pass, clear_marks};
+use finalizers::Finalizers;
 use page_sweep::{Traced, sweep};
 use page_table::PageTable;
 use word_space::Space;
@@ -40,16 +41,20 @@ fn target_of(pass: Pass) -> u8
 pub fn run_pass(
     space: &mut Space,
     pages: &mut PageTable,
+    finalizers: &mut Finalizers,
     roots: &mut Roots,
     pass: Pass,
     room: &mut PassRoom,
 )
     ghost h: { Rooted }
-    requires { CanPass h space.old pages.old roots.old.exact.items roots.old.ambiguous.items pass room.old }
-    ensures done { IsPassDone h space.new pages.new roots.new.exact.items roots.new.ambiguous.items pass room.new.notes }
+    requires can { CanPass h space.old pages.old roots.old.exact.items roots.old.ambiguous.items pass room.old }
+    requires queue { CanQueue h.heap finalizers.old room.old }
+    ensures done { IsPassDone h space.new pages.new finalizers.new roots.new.exact.items roots.new.ambiguous.items pass room.new.notes }
     ensures ambiguous { roots.new.ambiguous.items ≡ roots.old.ambiguous.items }
     ensures room_pages { room.new.pages ≡ room.old.pages }
     ensures room_ambiguous { room.new.ambiguous ≡ room.old.ambiguous }
+    ensures room_weak { room.new.weak ≡ room.old.weak }
+    ensures room_queued { room.new.queued ≡ room.old.queued }
 {
     clear_notes(&mut room.notes);
     let ambiguous = roots.ambiguous.as_slice();
@@ -70,6 +75,9 @@ pub fn run_pass(
         pass,
         exact,
         &mut room.notes,
+        &mut room.weak,
+        &mut room.waiting,
+        finalizers,
     );
     let target = target_of(pass);
     let traced = Traced {
@@ -83,4 +91,5 @@ pub fn run_pass(
     finish_notes(&mut room.notes, &room.pins, pass, target, count);
     clear_marks(&mut room.marks, &room.pins, room.notes.moves.as_slice());
     room.pins.clear();
+    room.weak.clear();
 }

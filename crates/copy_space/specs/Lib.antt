@@ -10,3 +10,6 @@ pub mod Copying
 pub mod Finding
 pub mod Notes
 pub mod Clearing
+pub mod WeakNames
+pub mod CullNotes
+pub mod Surviving

@@ -65,7 +65,7 @@ fn header_at(space: &Space, index: u32) -> (Kind, u32)
     }
 }
 
-/// Copies two words, by two reads and two writes.
+/// Copies two words.
 #[inline(always)]
 fn copy_pair(space: &mut Space, from: u32, to: u32)
     requires from_within { from + 2 ≤ length space.old }
@@ -73,10 +73,8 @@ fn copy_pair(space: &mut Space, from: u32, to: u32)
     requires small { length space.old ≤ MOST_WORDS }
     ensures { space.new ≡ copied space.old from to 2 }
 {
-    let first = space.read(from);
-    let second = space.read(from + 1);
-    space.write(to, first);
-    space.write(to + 1, second);
+    let (first, second) = space.read_pair(from);
+    space.write_pair(to, first, second);
 }
 
 /// Leaves the forwarding word and the word that refers to the copy at an object's old place.
@@ -86,8 +84,7 @@ fn forward(space: &mut Space, index: u32, word: u64)
     requires small { length space.old ≤ MOST_WORDS }
     ensures { space.new ≡ slice_set (slice_set space.old index forwarding_word) (index + 1) word }
 {
-    space.write(index, FORWARDING_WORD);
-    space.write(index + 1, word);
+    space.write_pair(index, FORWARDING_WORD, word);
 }
 
 impl<'s, 't, 'm, 'p, 'n> Copier<'s, 't, 'm, 'p, 'n> {

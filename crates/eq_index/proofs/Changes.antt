@@ -25,7 +25,7 @@ then_inside old mid new table b p q = record { long = q.long ∙ p.long; same = 
 
 -- nothing is written
 pub unchanged : (words : List ℕ) (table b : ℕ) (pairs : List PairWords) → IsTable words table b pairs → Becomes words words table b pairs
-unchanged words table b pairs t = record { is = t; elsewhere = record { long = refl; same = λ j out. refl } }
+unchanged words table b pairs t = record { is = t; weakness = refl; elsewhere = record { long = refl; same = λ j out. refl } }
 
 -- ---- another value in a pair
 
@@ -68,6 +68,7 @@ replaced words table b pairs slot value p t lt key val =
         kept = λ i to. kept words at value (table + 4 + 2 * b + i) (λ e. omega (arith, t.room)) ∙ t.kept i to;
         once = λ i k bi bk e. t.once i k (omega (arith, len)) (omega (arith, len)) (sym (pair_set pairs slot p i lt key) ∙ e ∙ pair_set pairs slot p k lt key);
       };
+      weakness = kept words at value (table + 1) (λ e. omega arith);
       elsewhere = inside words table b at value (omega arith) (omega (arith, t.room));
     }
 
@@ -180,6 +181,7 @@ added words table b count pairs p t counted room none =
             kept = λ i to. stays (table + 4 + 2 * b + i) (λ e. omega arith) (λ e. omega arith) (λ e. omega arith) ∙ t.kept i to;
             once = λ i k bi bk e. added_once words table b pairs p t none i k (omega (arith, len)) (omega (arith, len)) e;
           };
+          weakness = stays (table + 1) (λ e. omega arith) (λ e. omega arith) (λ e. omega arith);
           elsewhere = three_inside words table b (table + 4 + 2 * n) p.key p.value (2 * (n + 1)) (omega arith) (omega arith);
         }
 
@@ -310,6 +312,7 @@ removed words mid table b slot last pairs t c lt counted =
         kept = λ i to. open_word words mid table slot last (table + 4 + 2 * b + i) c (inr (omega (arith, t.room))) (λ e. omega arith) (omega arith) ∙ t.kept i to;
         once = λ i k bi bk e. left_once words table b slot last pairs t lt counted i k (omega (arith, len)) (omega (arith, len)) e;
       };
+      weakness = open_word words mid table slot last (table + 1) c (inl (omega arith)) (λ e. omega arith) (omega arith);
       elsewhere = then_inside words mid (removed_words mid table last) table b
           (closes_inside words mid table b (table + 4 + 2 * slot) (table + 4 + 2 * last) c (omega arith) (omega (arith, t.room)))
           (three_inside mid table b (table + 4 + 2 * last) 0x51 0x51 (2 * last) (omega arith) (omega (arith, t.room)));

@@ -13,6 +13,11 @@ abbrev pub Finds : List PairWords → ℕ → Option ℕ → Type 0
 Finds pairs key None = HasNo pairs key
 Finds pairs key (Some slot) = (slot < length pairs) × ((pair_at pairs slot).key ≡ key)
 
+-- the value of a key, or none where no pair has the key
+abbrev pub LooksUp : List PairWords → ℕ → Option ℕ → Type 0
+LooksUp pairs key None = HasNo pairs key
+LooksUp pairs key (Some value) = (slot : ℕ) × Finds pairs key (Some slot) × ((pair_at pairs slot).value ≡ value)
+
 -- the pairs but one; those behind it close up
 abbrev pub without : List PairWords → ℕ → List PairWords
 without pairs slot = take slot pairs ++ drop (slot + 1) pairs

@@ -1,5 +1,5 @@
 -- A table in the words of a space: its room and its pairs, each pair the words of its key and of its value. The layout is
--- this project's own. Nothing is said of its weakness, which look-up does not read.
+-- this project's own. Which weakness it has is left free: look-up does not read that word, and leaves it as it is.
 use Rattle.std.specs.Prelude.{◌≡◌, ℕ, ◌+◌, ◌*◌, ◌<◌, ◌≤◌, ◌⊎◌, List, length, slice_index, slice_index_or}
 use Rattle.heap_terms.specs.declared.kinds.Kind.TheVariants as kinds
 use Rattle.heap_terms.specs.declared.limits.TheConstants.{MOST_PAGES, MOST_PAIRS}
@@ -50,7 +50,8 @@ pub record StaysElsewhere (old new : List ℕ) (table b : ℕ) : Type 0 where
   pub long : length new ≡ length old
   pub same : (i : ℕ) → (i < table) ⊎ (table + 4 + 4 * b ≤ i) → slice_index new i ≡ slice_index old i
 
--- a table has these pairs now, and no other word has changed
+-- a table has these pairs now and the weakness that it had, and no word of another object has changed
 pub record Becomes (old new : List ℕ) (table b : ℕ) (pairs : List PairWords) : Type 0 where
   pub is : IsTable new table b pairs
+  pub weakness : slice_index new (table + 1) ≡ slice_index old (table + 1)
   pub elsewhere : StaysElsewhere old new table b

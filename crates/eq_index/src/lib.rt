@@ -9,4 +9,7 @@ mod tables;
 
 pub use inserting::{Inserted, insert};
 pub use removing::{remove, remove_at};
-pub use tables::{count, find, needs_rehash, rehash};
+pub use tables::{count, find, look_up, needs_rehash, rehash};
+
+#[cfg(test)]
+mod tests;

@@ -1,7 +1,7 @@
 //! Where a table keeps what, and how a pair is found.
 
 ghost use Rattle.std.specs.Prelude.{◌≡◌, ◌+◌, ◌*◌, ◌<◌, ◌≤◌, ◌==◌, ℕ, List, length, slice_index};
-ghost use Rattle.eq_index.specs.Answers.{Finds};
+ghost use Rattle.eq_index.specs.Answers.{Finds, LooksUp};
 ghost use Rattle.eq_index.specs.Tables.{Becomes, HasTable, IsTable, PairWords};
 
 use lisp_words::read_header;
@@ -62,6 +62,17 @@ pub fn find(space: &mut Space, table: u32, key: u64) -> Option<u32>
     ensures same { (b : ℕ) (pairs : List PairWords) → IsTable space.old table b pairs → Becomes space.old space.new table b pairs }
 {
     slot_of(space, table, key)
+}
+
+/// The value of a key in the table at an index; `None` exactly where no pair has the key. The pairs
+/// stay as they are, and so does every word outside the table.
+pub fn look_up(space: &mut Space, table: u32, key: u64) -> Option<u64>
+    requires { HasTable space.old table }
+    ensures found { (b : ℕ) (pairs : List PairWords) → IsTable space.old table b pairs → LooksUp pairs key result }
+    ensures same { (b : ℕ) (pairs : List PairWords) → IsTable space.old table b pairs → Becomes space.old space.new table b pairs }
+{
+    let slot = find(space, table, key)?;
+    Some(space.read(table + PAIRS + 2 * slot + 1))
 }
 
 /// Whether a look-up needs a rehash before it: exactly where the flag is fixnum 1. Until tables are

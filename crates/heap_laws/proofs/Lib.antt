@@ -3,6 +3,7 @@ pub mod AtPlaces
 pub mod ValidScripts
 pub mod NextEvents
 pub mod EventSteps
+pub mod OwnEvents
 pub mod SoundHeaps
 pub mod Allocating
 pub mod Reading

@@ -1,3 +1,3 @@
 -- Programs that a script can be read as.
-pub mod BuiltCommands
+pub mod ScriptCommands
 pub mod Limits

@@ -6,3 +6,4 @@ pub mod GenerationWords
 pub mod KeptWords
 pub mod PlainEvents
 pub mod InhibitsFew
+pub mod FinalizersFew

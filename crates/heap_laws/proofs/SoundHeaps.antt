@@ -6,7 +6,7 @@ pub use Rattle.heap_laws.proofs.WellFormed.Replayed.{outcome-kept, after-well_fo
 -- the threads at the start, the values in cells, and the pages on which regions are open
 pub use Rattle.heap_laws.proofs.WellFormed.Threads.{start_thread, start_free, open_page_used, open_run_used}
 pub use Rattle.heap_laws.proofs.WellFormed.LivingValues.{cell_living}
-pub use Rattle.heap_laws.proofs.Ranges.ObjectCount.{start_thread_is, commits_few}
+pub use Rattle.heap_laws.proofs.Ranges.ObjectCount.{start_thread_is, commits_few, commits_within}
 pub use Rattle.heap_laws.proofs.Outcomes.Parts.{with_field-kind}
 -- the policy's numbers, and the words of a generation
 pub use Rattle.heap_laws.proofs.Ranges.PolicyNumbers.{allocated_most, words_few, replay-numbers, pass-numbers}

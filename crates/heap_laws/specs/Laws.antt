@@ -39,6 +39,10 @@ HeapsAreWellFormed = (p : Program) (h : List Event) → IsLimited p → Lawful p
 abbrev pub HeapsAreSmall : Type 0
 HeapsAreSmall = (p : Program) (h : List Event) → IsValid p → Lawful p h → length (replay p h).objects ≤ MOST_COMMANDS
 
+-- with no more finalizers on the list and in the queue than events
+abbrev pub FinalizersAreFew : Type 0
+FinalizersAreFew = (p : Program) (h : List Event) → Lawful p h → length (replay p h).finalizers + length (replay p h).queue ≤ length h
+
 -- The policy's numbers stay small: in every such heap, and after each pass of a collection they are those of one pass
 -- more. So sums and products of them fit 64 bits.
 abbrev pub NumbersStaySmall : Type 0

@@ -1,5 +1,5 @@
 -- What stands in the events of a valid program: the commands that are built, and numbers in their ranges.
-use Rattle.std.specs.Prelude.{◌≡◌, ℕ, ◌<◌, ◌≤◌, ◌^◌, All, Option, Some, None}
+use Rattle.std.specs.Prelude.{◌≡◌, ℕ, ◌<◌, ◌≤◌, ◌^◌, List, [], ◌∷◌, All, Option, Some, None}
 use Rattle.std.specs.List.{AllByRecursion}
 use Rattle.heap_terms.specs.declared.answers.Answer.{Answer}
 use Rattle.heap_terms.specs.declared.answers.Answer.TheVariants.{Done, Val, Word, Yes, No, Absent, Live, Broken, Count, Ran, Page, Stat, Placed, Refused}
@@ -35,6 +35,11 @@ IsPlainView views.Free = Unit {0}
 IsPlainView (views.Small ty g fill items) = (g ≤ OLDEST_COLLECTED) × (fill ≤ PAGE_WORDS) × AllByRecursion IsPlainItem items
 IsPlainView (views.Large ty g pages name index) = (g ≤ OLDEST_COLLECTED) × (pages ≤ MOST_PAGES) × (name < MOST_COMMANDS) × (index < MOST_WORDS)
 
+-- some ids of finalizers
+abbrev pub ArePlainIds : List ℕ → Type 0
+ArePlainIds [] = ⊥
+ArePlainIds (id ∷ ids) = AllByRecursion (λ n. n < 2 ^ 32) (id ∷ ids)
+
 -- the answers of the commands that are built; a raw word has 64 bits, and an index is that of one of at most 1,024 pages' words
 abbrev pub IsPlainAnswer : Answer → Type 0
 IsPlainAnswer Done = Unit {0}
@@ -42,11 +47,11 @@ IsPlainAnswer (Val v) = IsPlainValue v
 IsPlainAnswer (Word w) = w < 2 ^ 64
 IsPlainAnswer Yes = Unit {0}
 IsPlainAnswer No = Unit {0}
-IsPlainAnswer Absent = ⊥
-IsPlainAnswer (Live v) = ⊥
-IsPlainAnswer Broken = ⊥
-IsPlainAnswer (Count n) = ⊥
-IsPlainAnswer (Ran ids) = ⊥
+IsPlainAnswer Absent = Unit {0}
+IsPlainAnswer (Live v) = IsPlainValue v
+IsPlainAnswer Broken = Unit {0}
+IsPlainAnswer (Count n) = n < 2 ^ 64
+IsPlainAnswer (Ran ids) = ArePlainIds ids
 IsPlainAnswer (Page view) = IsPlainView view
 IsPlainAnswer (Stat allocated cum num) = (allocated < 2 ^ 64) × (cum < 2 ^ 64) × (num < 2 ^ 32)
 IsPlainAnswer (Placed name index) = (name < MOST_COMMANDS) × (index < MOST_WORDS)

@@ -1,9 +1,9 @@
 //! Laws of the heaps that lawful histories leave.
 
-ghost use Rattle.heap_laws.specs.Laws.{ValidAreLimited, EventsKeepHeaps, HeapsAreWellFormed, HeapsAreSmall, NumbersStaySmall};
+ghost use Rattle.heap_laws.specs.Laws.{ValidAreLimited, EventsKeepHeaps, HeapsAreWellFormed, HeapsAreSmall, FinalizersAreFew, NumbersStaySmall};
 
 /// A valid program is within the limits that the laws of heaps and histories ask for. These speak of
-/// all commands, those that are not built yet too.
+/// all commands.
 pub fn valid_programs_are_limited()
     ensures { ValidAreLimited }
 {}
@@ -23,6 +23,11 @@ pub fn heaps_are_well_formed()
 /// A heap has at most 20,000 objects, since a command makes at most one.
 pub fn heaps_are_small()
     ensures { HeapsAreSmall }
+{}
+
+/// No more finalizers are registered and queued than events have happened.
+pub fn finalizers_are_few()
+    ensures { FinalizersAreFew }
 {}
 
 /// The policy's numbers stay small in every heap that a lawful history of a valid program leaves, and

@@ -70,9 +70,11 @@ name_of (Stat g) = codes "stat"
 -- the words that this version reads; a line that begins with another word is refused
 abbrev pub built_words : List (List ℕ)
 built_words = codes "lispheap" ∷ codes "heap" ∷ codes "auto" ∷ codes "thread" ∷ codes "fix" ∷ codes "nil" ∷ codes "move" ∷ codes "cons"
-    ∷ codes "vector" ∷ codes "instance" ∷ codes "closure" ∷ codes "words"
+    ∷ codes "vector" ∷ codes "instance" ∷ codes "closure" ∷ codes "words" ∷ codes "weak" ∷ codes "table"
     ∷ codes "get" ∷ codes "put" ∷ codes "rawget" ∷ codes "rawput" ∷ codes "eq" ∷ codes "show" ∷ codes "addr"
-    ∷ codes "raw" ∷ codes "add" ∷ codes "pin" ∷ codes "unpin" ∷ codes "gc" ∷ codes "nogc" ∷ codes "gcok" ∷ codes "page" ∷ codes "stat" ∷ codes "schedule" ∷ codes "end" ∷ []
+    ∷ codes "raw" ∷ codes "add" ∷ codes "pin" ∷ codes "unpin" ∷ codes "weakval" ∷ codes "tput" ∷ codes "tget" ∷ codes "trem"
+    ∷ codes "tcount" ∷ codes "gc" ∷ codes "nogc" ∷ codes "gcok" ∷ codes "page" ∷ codes "stat"
+    ∷ codes "finalize" ∷ codes "cancel" ∷ codes "runfin" ∷ codes "schedule" ∷ codes "end" ∷ []
 
 -- whether a word is among them
 abbrev pub is_built : List ℕ → Bool

@@ -17,6 +17,8 @@ use Rattle.heap_terms.specs.Policy.{is_raised, target_of}
 use Rattle.heap_terms.specs.Spelling.{word_of}
 use Rattle.heap_terms.specs.WellFormed.{IsWellFormed}
 use Rattle.heap_laws.proofs.EventSteps.{collected_threads}
+use Rattle.finalizers.specs.Lists.{Lists}
+use Rattle.finalizers.specs.Standing.{FinalizersStand}
 use Rattle.generation_policy.specs.declared.stats.GenStats.{GenStats}
 use Rattle.generation_policy.specs.Numbers.{StatsStand}
 use Rattle.pass_laws.proofs.Collecting.{closed_none, is_continued-low, pass_of-well_formed}
@@ -160,7 +162,8 @@ module _ (p : Program) (a : NamedHeap) (v : Parts) (wf : IsWellFormed p a) (h : 
     (are : ArePasses (closed a) last 0 records) (words : List ℕ) (pages : List Entry) (labels exact : List ℕ) (stats : GenStats)
     (stands : StandFor (record { heap = after_passes (closed a) last 0 records; values = root_values (closed a) }) words pages exact (ambiguous_roots v.cells v.pins))
     (named : LabelsStand (after_passes (closed a) last 0 records) labels) (numbers : StatsStand (after_passes (closed a) last 0 records) stats)
-    (long : length (after_passes (closed a) last 0 records).objects ≡ length (closed a).objects) where
+    (long : length (after_passes (closed a) last 0 records).objects ≡ length (closed a).objects) (lists : Lists)
+    (listed : FinalizersStand (after_passes (closed a) last 0 records) lists) where
   abbrev b : NamedHeap
   b = closed a
 
@@ -185,6 +188,7 @@ module _ (p : Program) (a : NamedHeap) (v : Parts) (wf : IsWellFormed p a) (h : 
     stats = stats;
     counted = v.counted;
     triggered = v.triggered;
+    finalizers = lists;
   }
 
   cells_passed : CellsStand c (with_exact_words v.cells exact)
@@ -203,6 +207,7 @@ module _ (p : Program) (a : NamedHeap) (v : Parts) (wf : IsWellFormed p a) (h : 
     stats = numbers;
     counted = holds_b.counted ∙ sym (passes-counted b last 0 records);
     triggered = holds_b.triggered ∙ sym (passes-triggered b last 0 records);
+    finalizers = listed;
   }
 
   -- the fields after the collection

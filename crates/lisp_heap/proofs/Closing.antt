@@ -64,6 +64,7 @@ Holds-closed a v h = record {
   stats = StatsStand-same a (closed a) v.stats refl refl refl h.stats;
   counted = h.counted;
   triggered = h.triggered;
+  finalizers = record { registered = h.finalizers.registered; queue = h.finalizers.queue };
 }
 
 -- ---- what each thread of a well-formed heap has

@@ -1,6 +1,7 @@
 -- A collection over the fields of a World: it can be made, and the fields stand after it.
 use Rattle.std.proofs.Common.{◌≡◌, ℕ, ◌+◌, ◌*◌, ◌<◌, ◌≤◌, List, [], ◌∷◌, ◌++◌, length, map, refl, sym, ◌∙◌, subst, ap, arith, None}
 use Rattle.std.proofs.lemmas.List.{length-append, length-map}
+use Rattle.std.specs.List.{sum_by}
 use Rattle.std.specs.Option.{ForSome}
 use Rattle.std.specs.Prelude.{flat_map}
 use Rattle.heap_terms.specs.declared.events.Event.{Event}
@@ -8,15 +9,17 @@ use Rattle.heap_terms.specs.declared.events.Event.TheVariants.{Collected}
 use Rattle.heap_terms.specs.declared.events.PassRecord.{PassRecord}
 use Rattle.heap_terms.specs.declared.pages.Entry.{Entry}
 use Rattle.heap_terms.specs.declared.pages.Next.TheVariants as nexts
+use Rattle.finalizers.specs.Lists.{Lists}
+use Rattle.finalizers.specs.Standing.{FinalizersStand}
 use Rattle.generation_policy.specs.declared.stats.GenStats.{GenStats}
-use Rattle.heap_laws.proofs.SoundHeaps.{commits_few, replay-numbers}
+use Rattle.heap_laws.proofs.SoundHeaps.{commits_few, commits_within, replay-numbers}
 use Rattle.heap_terms.specs.Collections.{ArePasses, after_passes, closed}
 use Rattle.pass_laws.proofs.Collecting.{closed_none}
 use Rattle.heap_terms.specs.Heap.{NamedHeap, thread_at}
 use Rattle.heap_terms.specs.Histories.{IsNext, after}
 use Rattle.heap_terms.specs.Spelling.{word_of}
 use Rattle.heap_terms.specs.WellFormed.{IsWellFormed}
-use Rattle.collect_pass.specs.Pass.{IsReservedFor, RoomView}
+use Rattle.collect_pass.specs.Pass.{CanQueue, IsReservedFor, RoomView}
 use Rattle.trace_laws.specs.Rooted.{Rooted, StandFor}
 use Rattle.lisp_heap.specs.Agreement.{Agrees}
 use Rattle.lisp_heap.specs.CellsView.{with_exact_words}
@@ -29,7 +32,9 @@ use Rattle.lisp_heap.specs.Standing.{Holds}
 use Rattle.lisp_heap.specs.State.{state_closed, with_owed}
 use Rattle.lisp_heap.specs.View.{View, heap_of, next_of}
 use Rattle.lisp_heap.specs.WorldSound.{IsRoomFor, IsSound, parts_of, view_of}
+use Rattle.lisp_heap.specs.Recording.{sizes_of}
 use Rattle.lisp_heap.specs.declared.recording.RecordRoom.{RecordRoom}
+use Rattle.lisp_heap.specs.declared.recording.RecordSizes.{RecordSizes}
 use Rattle.lisp_heap.specs.declared.world.World.TheInside.{Inside}
 use Rattle.lisp_heap.proofs.AfterCollection.{collected_agrees, collected_holds, collected_next, parts_then}
 use Rattle.lisp_heap.proofs.Closing.{Holds-closed, closed_wf, exact_each, few_ambiguous, stand}
@@ -37,7 +42,10 @@ use Rattle.lisp_heap.proofs.FlatCells.{flat_long}
 use Rattle.lisp_heap.proofs.PerformLemmas.{Holds-same}
 use Rattle.lisp_heap.proofs.Soundness.{heap, well_formed}
 use Rattle.lisp_heap.proofs.Stepping.{happens_after, heap_after, sound_after}
-use Rattle.lisp_heap.proofs.StrongHeaps.{replay-strong, strong_same}
+use Rattle.lisp_heap.proofs.FinalizersKept.{registered_long}
+use Rattle.lisp_heap.proofs.RecordSizing.{rooms_within}
+use Rattle.pair_laws.proofs.Counting.{pairs_few}
+use Rattle.pair_laws.specs.Counts.{pair_count}
 use Rattle.lisp_heap.proofs.WordReading.{thread_in}
 
 module _ (s : Inside) (i : IsSound s) (w : View) (view : view_of s ≡ w) (h : Rooted) (roots : h ≡ rooted_in w) where
@@ -72,7 +80,8 @@ module _ (s : Inside) (i : IsSound s) (w : View) (view : view_of s ≡ w) (h : R
         program = s.program;
         formed = closed_wf s.program (heap s) wf;
         regions = closed_none (heap s);
-        strong = strong_same (heap s) (closed (heap s)) refl refl (replay-strong s.program s.history.items i.valid i.lawful);
+        pairs_few = omega arith;
+        few_pages = omega (arith, wf.pages_length, i.valid.pages_most);
         numbers = record { words = numbers.words; cum = numbers.cum; num = numbers.num; counted = numbers.counted };
         few = commits_few s.program s.history.items i.valid i.lawful;
         objects_long = refl;
@@ -87,32 +96,62 @@ module _ (s : Inside) (i : IsSound s) (w : View) (view : view_of s ≡ w) (h : R
   objects_here = ap (λ (x : Rooted). length x.heap.objects) h_is ∙ sym i.holds.commits
 
   -- there is room for its passes
-  pub has_room : (ambiguous : List ℕ) (room : RoomView) → ambiguous ≡ ambiguous_roots s.cells s.pins → IsReservedFor room w.program.pages (56 * length w.program.threads) →
-      IsReservedFor room (length h.heap.pages) (length ambiguous)
+  pub has_room : (ambiguous : List ℕ) (room : RoomView) → ambiguous ≡ ambiguous_roots s.cells s.pins →
+      IsReservedFor room w.program.pages (56 * length w.program.threads) (sum_by length w.program.threads) →
+      IsReservedFor room (length h.heap.pages) (length ambiguous) (length h.heap.objects)
   has_room ambiguous room ambiguous_is reserved =
-      let here : IsReservedFor room s.program.pages (56 * length s.program.threads) = subst (λ (v : View). IsReservedFor room v.program.pages (56 * length v.program.threads)) (sym view) reserved in
+      let here : IsReservedFor room s.program.pages (56 * length s.program.threads) (sum_by length s.program.threads) =
+      subst (λ (v : View). IsReservedFor room v.program.pages (56 * length v.program.threads) (sum_by length v.program.threads)) (sym view) reserved in
       let few : length ambiguous ≤ 56 * length s.program.threads = subst (λ (ws : List ℕ). length ws ≤ 56 * length s.program.threads) (sym ambiguous_is) (few_ambiguous s.program (closed (heap s)) (closed_wf s.program (heap s) wf) before holds_b) in
       let pages : length s.pages ≡ s.program.pages = ap (λ (ps : List Entry). length ps) i.holds.pages ∙ wf.pages_length in
-      record { pages_are = here.pages_are ∙ sym (pages_here ∙ pages); enough = omega (arith, here.enough, few) }
+      let within = commits_within s.program s.history.items i.valid i.lawful in
+      record {
+        pages_are = here.pages_are ∙ sym (pages_here ∙ pages);
+        enough = omega (arith, here.enough, few);
+        weak_enough = omega (arith, here.weak_enough, within, objects_here, i.holds.commits);
+      }
+
+  pairs_here : pair_count h.heap ≤ length s.history.items
+  pairs_here =
+      let same : pair_count h.heap ≡ pair_count (heap s) = ap (λ (x : Rooted). pair_count x.heap) h_is in
+      let few = pairs_few s.program s.history.items in
+      omega (arith, same, few)
+
+  listed_before : FinalizersStand h.heap s.finalizers
+  listed_before = subst (λ (x : Rooted). FinalizersStand x.heap s.finalizers) (sym h_is) holds_b.finalizers
 
   -- and for its records
-  pub have_rooms : (rooms : List RecordRoom) (ambiguous : List ℕ) → AreRooms rooms s.commits (length ambiguous) (length s.pages) →
-      AreRooms rooms (length h.heap.objects) (length ambiguous) (length h.heap.pages)
-  have_rooms rooms ambiguous fit =
-      subst (λ (n : ℕ). AreRooms rooms n (length ambiguous) (length h.heap.pages)) (sym objects_here)
-      (subst (λ (n : ℕ). AreRooms rooms s.commits (length ambiguous) n) (sym pages_here) fit)
+  pub have_rooms : (rooms : List RecordRoom) (ambiguous : List ℕ) (sizes : RecordSizes) → sizes.moves ≡ s.commits → sizes.pins ≡ length ambiguous →
+      sizes.culls ≡ length s.history.items → sizes.breaks ≡ s.commits → sizes.queued ≡ length s.finalizers.registered → sizes.freed ≡ length s.pages → AreRooms rooms sizes →
+      AreRooms rooms (sizes_of h.heap (length ambiguous))
+  have_rooms rooms ambiguous sizes moves pins culls breaks queued freed fit = rooms_within rooms (sizes_of h.heap (length ambiguous)) sizes fit (record {
+      moves = omega (arith, moves, objects_here);
+      pins = omega (arith, pins);
+      culls = omega (arith, culls, pairs_here);
+      breaks = omega (arith, breaks, objects_here);
+      queued = omega (arith, queued, registered_long h.heap s.finalizers listed_before);
+      freed = omega (arith, freed, pages_here);
+    })
+
+  -- its finalizers can be queued
+  pub can_queue : (room : RoomView) → length s.finalizers.registered ≤ room.queued → CanQueue h.heap s.finalizers room
+  can_queue room reserved = record { stand = listed_before; reserved = reserved }
 
   -- ---- after the passes
 
   module _ (t last : ℕ) (lt : t < length w.program.threads) (collects : next_of w t ≡ nexts.Collect last) (allowed : (u : ℕ) → (thread_at (heap_of w) u).inhibits ≡ 0)
       (records : List PassRecord) (words : List ℕ) (pages : List Entry) (labels exact ambiguous : List ℕ) (stats : GenStats) (ambiguous_is : ambiguous ≡ ambiguous_roots s.cells s.pins)
-      (made : Stand h last words pages labels exact ambiguous stats records) (passes : ArePasses h.heap last 0 records) where
+      (made : Stand h last words pages labels exact ambiguous stats records) (passes : ArePasses h.heap last 0 records) (lists : Lists)
+      (listed : FinalizersStand (after_passes h.heap last 0 records) lists) where
     made_here : Stand (rooted (closed (heap s))) last words pages labels exact (ambiguous_roots s.cells s.pins) stats records
     made_here = subst (λ (x : Rooted). Stand x last words pages labels exact (ambiguous_roots s.cells s.pins) stats records) h_is
         (subst (λ (xs : List ℕ). Stand h last words pages labels exact xs stats records) ambiguous_is made)
 
     are : ArePasses (closed (heap s)) last 0 records
     are = subst (λ (x : Rooted). ArePasses x.heap last 0 records) h_is passes
+
+    listed_here : FinalizersStand (after_passes (closed (heap s)) last 0 records) lists
+    listed_here = subst (λ (x : Rooted). FinalizersStand (after_passes x.heap last 0 records) lists) h_is listed
 
     here : t < length s.program.threads
     here = thread_in s w view t lt
@@ -133,10 +172,10 @@ module _ (s : Inside) (i : IsSound s) (w : View) (view : view_of s ≡ w) (h : R
         (subst (λ (v : View). (u : ℕ) → (thread_at (heap_of v) u).inhibits ≡ 0) (sym view) allowed) are
 
     abbrev parts : Parts
-    parts = parts_then s.program (heap s) (parts_of s) wf i.holds t last records here are words pages labels exact stats made_here.stand made_here.named made_here.counted made_here.objects_long
+    parts = parts_then s.program (heap s) (parts_of s) wf i.holds t last records here are words pages labels exact stats made_here.stand made_here.named made_here.counted made_here.objects_long lists listed_here
 
     held : Holds (after s.program (heap s) event) parts
-    held = collected_holds s.program (heap s) (parts_of s) wf i.holds t last records here are words pages labels exact stats made_here.stand made_here.named made_here.counted made_here.objects_long
+    held = collected_holds s.program (heap s) (parts_of s) wf i.holds t last records here are words pages labels exact stats made_here.stand made_here.named made_here.counted made_here.objects_long lists listed_here
 
     -- the fields of a World to which all that was written
     pub record Written (x : Inside) : Type 0 where
@@ -152,12 +191,13 @@ module _ (s : Inside) (i : IsSound s) (w : View) (view : view_of s ≡ w) (h : R
       pub stats_are : x.stats ≡ stats
       pub counted : x.counted ≡ s.counted
       pub triggered : x.triggered ≡ s.triggered
+      pub finalizers : x.finalizers ≡ lists
       pub scratch : ForSome x.scratch (IsRoomFor x.program)
 
     pub sound_then : (x : Inside) → Written x → IsSound x
     sound_then x f =
         sound_after s x event i f.program f.history is_next f.scratch
-        (Holds-same (after s.program (heap s) event) parts (parts_of x) f.space f.pages_are f.labels_are f.cells f.states f.pins f.commits f.stats_are f.counted f.triggered held)
+        (Holds-same (after s.program (heap s) event) parts (parts_of x) f.space f.pages_are f.labels_are f.cells f.states f.pins f.commits f.stats_are f.counted f.triggered f.finalizers held)
 
     pub happens : (x : Inside) → Written x → Happens t w (view_of x)
     happens x f = happens_after s x w t event view f.program f.history refl is_next (sound_then x f)

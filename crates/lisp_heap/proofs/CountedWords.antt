@@ -33,6 +33,8 @@ module _ (p : Program) (b : NamedHeap) (t size : ℕ) where
     pub pages : counted_heap.pages ≡ b.pages
     pub cum : counted_heap.cum ≡ b.cum
     pub num : counted_heap.num ≡ b.num
+    pub finalizers : counted_heap.finalizers ≡ b.finalizers
+    pub queue : counted_heap.queue ≡ b.queue
     pub pins : map pins_of counted_heap.threads ≡ map pins_of b.threads
     pub threads : length counted_heap.threads ≡ length b.threads
 
@@ -43,6 +45,8 @@ module _ (p : Program) (b : NamedHeap) (t size : ℕ) where
       pages = rw reached refl;
       cum = rw reached refl;
       num = rw reached refl;
+      finalizers = rw reached refl;
+      queue = rw reached refl;
       pins = rw reached (with_thread-pins b t asked refl);
       threads = rw reached (length-set b.threads t asked);
     }
@@ -51,6 +55,8 @@ module _ (p : Program) (b : NamedHeap) (t size : ℕ) where
       pages = rw below refl;
       cum = rw below refl;
       num = rw below refl;
+      finalizers = rw below refl;
+      queue = rw below refl;
       pins = rw below refl;
       threads = rw below refl;
     }

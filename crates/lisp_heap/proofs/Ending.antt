@@ -176,6 +176,7 @@ Holds-ended a v t ht holds =
       stats = StatsStand-same a (with_thread a t th) v.stats refl refl refl holds.stats;
       counted = holds.counted;
       triggered = holds.triggered;
+      finalizers = record { registered = holds.finalizers.registered; queue = holds.finalizers.queue };
     }
 
 pub after_end_holds : (p : Program) (a : NamedHeap) (v : Parts) (t : ℕ) → t < length a.threads → Holds a v →

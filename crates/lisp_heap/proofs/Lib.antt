@@ -5,6 +5,7 @@ pub mod SlotChanges
 pub mod PutLemmas
 pub mod CommitLemmas
 pub mod Unchanged
+pub mod FinalizersKept
 pub mod PerformLemmas
 pub mod Soundness
 pub mod WordReading
@@ -16,6 +17,8 @@ pub mod Rooms
 pub mod Wanted
 pub mod Nexts
 pub mod Stepping
+pub mod FinalizerSteps
+pub mod FinalizerPlans
 pub mod Agreeing
 pub mod Wishing
 pub mod Elsewhere
@@ -32,7 +35,8 @@ pub mod Starting
 pub mod Ending
 pub mod Leasing
 pub mod Relabelling
-pub mod StrongHeaps
+pub mod RecordSizing
+pub mod WeakNoted
 pub mod Recorded
 pub mod FlatCells
 pub mod ExactRoots
@@ -51,3 +55,13 @@ pub mod KeptThere
 pub mod CountedThere
 pub mod NextPass
 pub mod PassesSoFar
+mod ReopenedRegions
+mod ParcelLists
+pub mod TableSlots
+pub mod KeyedPairs
+pub mod ObjectChanges
+pub mod TablesHere
+pub mod TableSteps
+pub mod TablePlans
+pub mod TableReading
+pub mod TableActs

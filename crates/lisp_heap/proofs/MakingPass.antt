@@ -12,22 +12,27 @@ use Rattle.copy_space.specs.declared.notes.Pass.{Pass}
 use Rattle.copy_space.specs.declared.notes.PassNotes.{PassNotes}
 use Rattle.copy_space.specs.Moved.{noted}
 use Rattle.trace_laws.specs.Rooted.{Rooted}
+use Rattle.finalizers.specs.Lists.{Lists}
+use Rattle.finalizers.specs.Standing.{FinalizersStand}
 use Rattle.lisp_heap.specs.Collecting.{CanMake, IsMade}
-use Rattle.lisp_heap.specs.Recording.{CanRelabel, HasRoom, HaveLabels, recorded, relabelled}
+use Rattle.lisp_heap.specs.Recording.{AreWithin, CanRelabel, HasRoom, HaveLabels, recorded, relabelled, sizes_noted, sizes_of}
 use Rattle.lisp_heap.specs.Standing.{LabelsStand}
 use Rattle.lisp_heap.specs.declared.recording.RecordRoom.{RecordRoom}
+use Rattle.pass_names.specs.Named.{AreNotes, Met}
 use Rattle.lisp_heap.proofs.Pinned.{pins_few}
+use Rattle.lisp_heap.proofs.RecordSizing.{room_within}
+use Rattle.lisp_heap.proofs.WeakNoted.{breaks_few, culls_few, labels_of, met_in, notes_are, queued_few}
 use Rattle.lisp_heap.proofs.Recorded.{freed_few, have_labels, moves_few, recorded_is}
 use Rattle.lisp_heap.proofs.Relabelling.{LabelsStand-pass, can_relabel}
 
 module _ (h : Rooted) (words : List ℕ) (pages : List Entry) (labels exact ambiguous : List ℕ) (pass : Pass) (room : RoomView) (record_room : RecordRoom)
     (can : CanMake h words pages labels exact ambiguous pass room record_room) (words' : List ℕ) (pages' : List Entry) (exact' ambiguous' : List ℕ) (n : PassNotes)
-    (done : IsPassDone h words' pages' exact' ambiguous' pass n) where
+    (lists : Lists) (done : IsPassDone h words' pages' lists exact' ambiguous' pass n) where
   pub labels_there : HaveLabels labels n
-  labels_there = have_labels h.heap labels n done.r can.can.stand.sound can.named done.told
+  labels_there = have_labels h.heap labels n done.r can.can.stand.sound can.few_pages can.named done.told
 
-  pub room_there : HasRoom record_room (length n.moves.items) (length n.pins.items) (length n.freed.items)
-  room_there =
+  within : AreWithin (sizes_noted n) (sizes_of h.heap (length ambiguous))
+  within =
       let target = target_of pass.generation pass.raise in
       let moves = moves_few h.heap pass.generation target done.r done.is_pass in
       let pins = pins_few h.heap pass.generation target done.r can.can.stand.sound done.is_pass ambiguous can.can.stand.roots.hits in
@@ -35,19 +40,26 @@ module _ (h : Rooted) (words : List ℕ) (pages : List Entry) (labels exact ambi
       let long_moves : length n.moves.items ≡ length done.r.moves = ap length done.told.moves ∙ length-map done.r.moves noted in
       let long_pins : length n.pins.items ≡ length done.r.pins = ap length done.told.pins ∙ length-map done.r.pins (λ (q : PinAt). q.index) in
       let long_freed : length n.freed.items ≡ length done.r.freed = ap length done.told.freed in
-      let long_pages : length pages ≡ length h.heap.pages = ap length can.can.stand.pages_are in
       record {
-        no_moves = can.fits.no_moves;
-        no_pins = can.fits.no_pins;
-        no_freed = can.fits.no_freed;
-        moves_fit = omega (arith, can.fits.moves_fit, moves, long_moves);
-        pins_fit = omega (arith, can.fits.pins_fit, pins, long_pins);
-        freed_fit = omega (arith, can.fits.freed_fit, freed, long_freed, long_pages);
+        moves = omega (arith, moves, long_moves);
+        pins = omega (arith, pins, long_pins);
+        culls = culls_few h.heap done.r n done.told;
+        breaks = breaks_few h.heap done.r n done.told;
+        queued = queued_few h.heap done.r n done.told pass.generation target done.is_pass;
+        freed = omega (arith, freed, long_freed);
       }
 
-  module _ (r : PassRecord) (written : r ≡ recorded labels n) where
+  pub room_there : HasRoom record_room (sizes_noted n)
+  room_there = room_within record_room (sizes_noted n) (sizes_of h.heap (length ambiguous)) can.fits within
+
+  module _ (r : PassRecord) (written : (m : Met) → AreNotes m labels n → r ≡ recorded labels m n) where
     is_told : r ≡ done.r
-    is_told = written ∙ recorded_is h.heap labels n done.r can.named done.told
+    is_told =
+        written (met_in h.heap done.r n done.told) (notes_are h.heap done.r n done.told labels (labels_of h.heap labels can.can.stand.sound can.few_pages can.named))
+        ∙ recorded_is h.heap pass.generation (target_of pass.generation pass.raise) labels n done.r done.told can.named done.is_pass
+
+    pub lists_stand : FinalizersStand (after_pass h.heap r) lists
+    lists_stand = subst (λ (x : PassRecord). FinalizersStand (after_pass h.heap x) lists) (sym is_told) done.finalizers_stand
 
     pub labels_fit : (moves : List Placing) → moves ≡ r.moves → CanRelabel labels moves
     labels_fit moves are =

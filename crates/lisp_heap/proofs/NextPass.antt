@@ -10,10 +10,15 @@ use Rattle.heap_laws.specs.Numbers.{HasNumbers, most_passes}
 use Rattle.heap_terms.specs.declared.events.PassRecord.{PassRecord}
 use Rattle.heap_terms.specs.declared.pages.Entry.{Entry}
 use Rattle.heap_terms.specs.Collections.{IsPassOf, after_pass_of}
-use Rattle.heap_terms.specs.Heap.{NamedHeap}
+use Rattle.copy_space.specs.WeakNames.{is_weak_object, weak_count}
+use Rattle.heap_terms.specs.Generations.{names}
+use Rattle.heap_terms.specs.Heap.{NamedHeap, object_at}
+use Rattle.std.proofs.lemmas.List.FromFn.{length-range_with_len}
+use Rattle.std.proofs.lemmas.List.Sums.{count_by-le-length}
 use Rattle.heap_terms.specs.Passes.{IsPass, after_pass}
 use Rattle.heap_terms.specs.Policy.{is_raised, target_of}
 use Rattle.heap_terms.specs.WellFormed.{IsSound}
+use Rattle.pair_laws.proofs.Counting.{pass_few}
 use Rattle.pass_laws.proofs.AfterPages.{objects_long, pages_long}
 use Rattle.pass_laws.proofs.Collecting.{is_raised-low, pass_of-well_formed}
 use Rattle.pass_laws.specs.NoRegions.{IsEmptyBelow}
@@ -21,9 +26,8 @@ use Rattle.trace_laws.specs.Rooted.{Rooted, RootsStand}
 use Rattle.lisp_heap.specs.AllPasses.{IsNextPass, StandNow}
 use Rattle.lisp_heap.specs.Collecting.{CanMake, IsMade}
 use Rattle.lisp_heap.specs.Counted.{CanCount, counted_heap}
-use Rattle.lisp_heap.specs.Recording.{HasRoom}
+use Rattle.lisp_heap.specs.Recording.{HasRoom, sizes_of}
 use Rattle.lisp_heap.specs.declared.recording.RecordRoom.{RecordRoom}
-use Rattle.lisp_heap.proofs.StrongHeaps.{strong_pass, strong_same}
 use Rattle.lisp_heap.proofs.Unchanged.{LabelsStand-same, WordsStand-same}
 
 -- the two sides of the comparison of an age are small enough
@@ -35,6 +39,10 @@ measurable c stats n g stand numbers few low =
       words = omega (arith, words, stand.allocated_is g low);
       sums = rw stand.cum_is (omega (arith, cum, few));
     }
+
+-- no more weak pointers and tables than names
+weak_few : (a : NamedHeap) → weak_count a ≤ length a.objects
+weak_few a = (let few = count_by-le-length (λ name. is_weak_object (object_at a.objects name)) (names a) in let long = length-range_with_len 0 (length a.objects) in omega (arith, few, long))
 
 module _ (h : Rooted) (last n : ℕ) (pass : Pass) (words : List ℕ) (pages : List Entry) (labels exact ambiguous : List ℕ) (stats : GenStats)
     (stand : StandNow h h.heap n words pages labels exact ambiguous stats) (next : IsNextPass h.heap last n pass) where
@@ -53,24 +61,28 @@ module _ (h : Rooted) (last n : ℕ) (pass : Pass) (words : List ℕ) (pages : L
     raised = λ e. (let low = raised_low e in omega (arith, generation_is, low));
   }
 
-  pub can_make : (room : RoomView) (record_room : RecordRoom) → IsReservedFor room (length h.heap.pages) (length ambiguous) →
-      HasRoom record_room (length h.heap.objects) (length ambiguous) (length h.heap.pages) → CanMake h words pages labels exact ambiguous pass room record_room
+  pub can_make : (room : RoomView) (record_room : RecordRoom) → IsReservedFor room (length h.heap.pages) (length ambiguous) (length h.heap.objects) →
+      HasRoom record_room (sizes_of h.heap (length ambiguous)) → CanMake h words pages labels exact ambiguous pass room record_room
   can_make room record_room reserved fits =
       let long : length h.heap.pages ≡ length pages = ap (λ (ps : List Entry). length ps) (sym stand.stand.pages_are) in
       record {
         can = record {
           stand = stand.stand;
-          strong = stand.strong;
           generation = omega (arith, generation_is, next.low);
           oldest = λ e. elim (cases_Bool pass.raise) [
             | inl raised ↦ (let low = raised_low raised in absurd (omega (arith, generation_is, low, e)))
             | inr kept ↦ kept
           ];
           youngest = subst (IsEmptyBelow h.heap) (sym generation_is) next.empty;
-          reserved = record { pages_are = reserved.pages_are ∙ long; enough = reserved.enough };
+          reserved = record {
+            pages_are = reserved.pages_are ∙ long;
+            enough = reserved.enough;
+            weak_enough = omega (arith, weak_few h.heap, reserved.weak_enough);
+          };
         };
         named = stand.named;
-        fits = subst (HasRoom record_room (length h.heap.objects) (length ambiguous)) long fits;
+        few_pages = stand.few_pages;
+        fits = fits;
       }
 
   pub can_count : CanCount h.heap stats pass
@@ -119,7 +131,8 @@ module _ (h : Rooted) (last n : ℕ) (pass : Pass) (words : List ℕ) (pages : L
           program = stand.program;
           formed = formed.0;
           regions = formed.1;
-          strong = strong_same b (after_pass_of h.heap last n r) refl refl (strong_pass h.heap r stand.strong);
+          pairs_few = pass_few h.heap r;
+          few_pages = omega (arith, paged, stand.few_pages);
           numbers = subst (HasNumbers (after_pass_of h.heap last n r)) (omega arith) numbers;
           few = omega (arith, objects, stand.few);
           objects_long = objects;

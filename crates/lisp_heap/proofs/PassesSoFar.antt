@@ -50,7 +50,8 @@ module _ (h : Rooted) (last : ℕ) (records : List PassRecord) (words : List ℕ
     program = stand.program;
     formed = stand.formed;
     regions = stand.regions;
-    strong = stand.strong;
+    pairs_few = omega arith;
+    few_pages = stand.few_pages;
     numbers = stand.numbers;
     few = stand.few;
     objects_long = refl;
@@ -79,7 +80,8 @@ module _ (h : Rooted) (last : ℕ) (records : List PassRecord) (words : List ℕ
       program = step.stand.program;
       formed = step.stand.formed;
       regions = step.stand.regions;
-      strong = step.stand.strong;
+      pairs_few = omega (arith, step.stand.pairs_few, stand.pairs_few);
+      few_pages = step.stand.few_pages;
       numbers = step.stand.numbers;
       few = step.stand.few;
       objects_long = step.stand.objects_long ∙ stand.objects_long;

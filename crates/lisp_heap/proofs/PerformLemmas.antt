@@ -2,6 +2,7 @@
 use Rattle.std.proofs.Common.{◌≡◌, ℕ, ◌+◌, ◌<◌, List, [], ◌∷◌, ◌++◌, length, refl, sym, ◌∙◌, subst, ap, arith, get_or, set, length-set, Some}
 use Rattle.std.proofs.Math.Seq.{map-set_same}
 use Rattle.heap_terms.specs.declared.cells.Value.{Value}
+use Rattle.heap_terms.specs.declared.cells.Value.TheVariants.{Ref}
 use Rattle.heap_terms.specs.declared.programs.Program.{Program}
 use Rattle.heap_terms.specs.Cells.{with_cell}
 use Rattle.heap_terms.specs.Generations.{allocated}
@@ -11,6 +12,8 @@ use Rattle.heap_terms.specs.RawCells.{with_raw}
 use Rattle.heap_terms.specs.Stands.{WordsStand}
 use Rattle.heap_terms.specs.WellFormed.{IsWellFormed}
 use Rattle.heap_terms.specs.Spelling.{word_of}
+use Rattle.finalizers.specs.Lists.{Lists}
+use Rattle.finalizers.specs.Standing.{FinalizersStand}
 use Rattle.generation_policy.specs.Numbers.{StatsStand}
 use Rattle.generation_policy.specs.declared.stats.GenStats.{GenStats}
 use Rattle.lisp_heap.specs.CellsView.{CellsView}
@@ -23,6 +26,7 @@ use Rattle.lisp_heap.specs.declared.plan.Change.{Change}
 use Rattle.lisp_heap.specs.declared.plan.Change.TheVariants as changes
 use Rattle.lisp_heap.specs.declared.states.ThreadState.{ThreadState}
 use Rattle.lisp_heap.proofs.CellLemmas.{CellsStand-with_thread, CellsStand-with_cell, CellsStand-with_raw, CellsStand-objects}
+use Rattle.lisp_heap.proofs.FinalizersKept.{FinalizersStand-same, FinalizersStand-words}
 use Rattle.lisp_heap.proofs.ObjectLemmas.{word_of-replaced}
 use Rattle.lisp_heap.proofs.PutLemmas.{WordsStand-slot, LabelsStand-slot}
 use Rattle.lisp_heap.proofs.Unchanged.{WordsStand-same, LabelsStand-same, StatsStand-same, with_cell-numbers, with_cell-objects, with_cell-pages, with_cell-states, with_cell-pins, with_raw-states, with_raw-pins, with_thread-pins, state_read, states_set, pins_read, pins_set}
@@ -51,6 +55,7 @@ Holds-thread a v t th state stack exact raws pins same holds = record {
   stats = StatsStand-same a (with_thread a t th) v.stats refl refl refl holds.stats;
   counted = holds.counted;
   triggered = holds.triggered;
+  finalizers = record { registered = holds.finalizers.registered; queue = holds.finalizers.queue };
 }
 
 -- a thread changes in nothing but its pins
@@ -69,6 +74,7 @@ Holds-pins a v t pins words same holds =
       stats = StatsStand-same a (with_thread a t th) v.stats refl refl refl holds.stats;
       counted = holds.counted;
       triggered = holds.triggered;
+      finalizers = record { registered = holds.finalizers.registered; queue = holds.finalizers.queue };
     }
 
 -- the change makes the parts stand for the new heap
@@ -90,6 +96,7 @@ Holds-change p a new v t (changes.InCell cell word) wf wf_new ht same_words hold
       stats = StatsStand-same a (with_cell a t cell makes.value) v.stats (with_cell-objects a t cell makes.value) numbers.cum numbers.num holds.stats;
       counted = holds.counted ∙ sym numbers.counted;
       triggered = holds.triggered ∙ sym numbers.triggered;
+      finalizers = FinalizersStand-same a (with_cell a t cell makes.value) v.finalizers (with_cell-objects a t cell makes.value) numbers.finalizers numbers.queue holds.finalizers;
     })
 Holds-change p a new v t (changes.InRaw r word) wf wf_new ht same_words holds makes =
     let lt : t < length a.threads = omega (arith, wf.threads_length) in
@@ -105,6 +112,7 @@ Holds-change p a new v t (changes.InRaw r word) wf wf_new ht same_words holds ma
       stats = StatsStand-same a (with_raw a t r word) v.stats refl refl refl holds.stats;
       counted = holds.counted;
       triggered = holds.triggered;
+      finalizers = record { registered = holds.finalizers.registered; queue = holds.finalizers.queue };
     })
 Holds-change p a new v t (changes.InSpace index word) wf wf_new ht same_words holds makes =
     let new_objects = set a.objects makes.name (Some (record makes.object { contents = makes.contents })) in
@@ -132,6 +140,7 @@ Holds-change p a new v t (changes.InSpace index word) wf wf_new ht same_words ho
       };
       counted = holds.counted;
       triggered = holds.triggered;
+      finalizers = FinalizersStand-words a b v.finalizers wf.sound.finalizers (λ name there. same (Ref name)) refl refl holds.finalizers;
     })
 Holds-change p a new v t (changes.Inhibits count) wf wf_new ht same_words holds makes =
     let lt : t < length a.threads = omega (arith, wf.threads_length) in
@@ -157,8 +166,8 @@ Holds-change p a new v t changes.PopPin wf wf_new ht same_words holds makes =
 
 -- parts that are the same stand for the same heap
 pub Holds-same : (a : NamedHeap) (v w : Parts) → w.words ≡ v.words → w.pages ≡ v.pages → w.labels ≡ v.labels → w.cells ≡ v.cells →
-    w.states ≡ v.states → w.pins ≡ v.pins → w.commits ≡ v.commits → w.stats ≡ v.stats → w.counted ≡ v.counted → w.triggered ≡ v.triggered → Holds a v → Holds a w
-Holds-same a v w words pages labels cells states pins commits stats counted triggered h = record {
+    w.states ≡ v.states → w.pins ≡ v.pins → w.commits ≡ v.commits → w.stats ≡ v.stats → w.counted ≡ v.counted → w.triggered ≡ v.triggered → w.finalizers ≡ v.finalizers → Holds a v → Holds a w
+Holds-same a v w words pages labels cells states pins commits stats counted triggered finalizers h = record {
   words = subst (λ (x : List ℕ). WordsStand a x) (sym words) h.words;
   pages = pages ∙ h.pages;
   labels = subst (λ (x : List ℕ). LabelsStand a x) (sym labels) h.labels;
@@ -169,4 +178,5 @@ Holds-same a v w words pages labels cells states pins commits stats counted trig
   stats = subst (λ (x : GenStats). StatsStand a x) (sym stats) h.stats;
   counted = counted ∙ h.counted;
   triggered = triggered ∙ h.triggered;
+  finalizers = subst (λ (x : Lists). FinalizersStand a x) (sym finalizers) h.finalizers;
 }

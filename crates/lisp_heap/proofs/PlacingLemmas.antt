@@ -30,6 +30,7 @@ use Rattle.heap_laws.proofs.SoundHeaps.{commits_few, after-well_formed, committe
 use Rattle.heap_laws.specs.Numbers.{HasNumbers, most_passes}
 use Rattle.heap_laws.proofs.ValidScripts.{script_command}
 use Rattle.word_space.specs.Space.{written}
+use Rattle.finalizers.specs.Standing.{FinalizersStand}
 use Rattle.generation_policy.specs.Numbers.{StatsStand}
 use Rattle.generation_policy.specs.declared.stats.GenStats.{GenStats}
 use Rattle.lisp_heap.specs.CellsView.{with_cell_word}
@@ -45,6 +46,7 @@ use Rattle.lisp_heap.specs.declared.world.World.TheInside.{Inside}
 use Rattle.lisp_heap.proofs.Agreeing.{states_at}
 use Rattle.lisp_heap.proofs.CellLemmas.{CellsStand-with_thread, CellsStand-with_cell, CellsStand-objects}
 use Rattle.lisp_heap.proofs.CommitLemmas.{WordsStand-commit, LabelsStand-commit, new_placed, room}
+use Rattle.lisp_heap.proofs.FinalizersKept.{FinalizersStand-words}
 use Rattle.lisp_heap.proofs.CountedWords.{CellsStand-counting, IsSameBut, counting-counted, counting-same, counting-states, counting-triggered}
 use Rattle.lisp_heap.proofs.Filling.{Fills, fills}
 use Rattle.lisp_heap.proofs.ObjectLemmas.{word_of-push}
@@ -365,6 +367,11 @@ module _ (s : Inside) (h : IsSound s) (t : ℕ) (c : Command) (d : Cell) (index 
       let grown : length new_objects ≡ length a.objects + 1 = length-append a.objects (Some object ∷ []) in
       omega (arith, h.holds.commits, grown, ap length objects_are)
 
+  finalizers_stand : FinalizersStand placed_heap s.finalizers
+  finalizers_stand = FinalizersStand-words a placed_heap s.finalizers wf.sound.finalizers
+      (λ name there. ap (λ (os : List (Option Object)). word_of os (values.Ref name)) objects_are ∙ word_of-push a.objects object (values.Ref name) there)
+      (same_but.finalizers ∙ numbers.finalizers) (same_but.queue ∙ numbers.queue) h.holds.finalizers
+
   abbrev pub parts_now : GenStats → Parts
   parts_now stats = record {
     words = written s.space index (spelling a.objects (initial_contents a t c));
@@ -377,6 +384,7 @@ module _ (s : Inside) (h : IsSound s) (t : ℕ) (c : Command) (d : Cell) (index 
     stats = stats;
     counted = counted_after s.program.auto s.counted s.triggered size;
     triggered = triggered_after s.program.auto s.counted s.triggered size;
+    finalizers = s.finalizers;
   }
 
   pub placed_holds : (stats : GenStats) → HasMore s.stats stats size → Holds (after s.program a event) (parts_now stats)
@@ -391,4 +399,5 @@ module _ (s : Inside) (h : IsSound s) (t : ℕ) (c : Command) (d : Cell) (index 
     stats = stats_stand stats more;
     counted = counted_stands;
     triggered = triggered_stands;
+    finalizers = finalizers_stand;
   })

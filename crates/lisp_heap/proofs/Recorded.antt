@@ -10,13 +10,15 @@ use Rattle.std.proofs.lemmas.Map.Made.{IsDistinct-from_AllPairs}
 use Rattle.std.proofs.lemmas.Map.Steps.{length-le_from_distinct_below}
 use Rattle.std.specs.List.{range_with_len}
 use Rattle.std.specs.Prelude.{slice_index, All, ◌==◌, not, filter, if◌then◌else◌, unwrap_or}
+use Rattle.heap_terms.specs.declared.events.Cull.{Cull}
 use Rattle.heap_terms.specs.declared.events.PassRecord.{PassRecord}
 use Rattle.heap_terms.specs.declared.events.PinAt.{PinAt}
 use Rattle.heap_terms.specs.declared.events.Placing.{Placing}
 use Rattle.heap_terms.specs.Generations.{has_generation, is_of}
 use Rattle.heap_terms.specs.Heap.{NamedHeap, object_at, entry_at}
 use Rattle.heap_terms.specs.Objects.{Object, kind_of, payload_of}
-use Rattle.heap_terms.specs.Passes.{IsPass, order_of, is_freed}
+use Rattle.heap_terms.specs.Passes.{IsPass, order_of, is_freed, remains}
+use Rattle.heap_terms.specs.Survival.{breaks_of, culls_of}
 use Rattle.heap_terms.specs.WellFormed.{IsSound}
 use Rattle.heap_laws.proofs.AtPlaces.{IfSome-at}
 use Rattle.heap_laws.proofs.Allocating.{size_least}
@@ -27,6 +29,7 @@ use Rattle.copy_space.specs.Moved.{noted}
 use Rattle.trace_laws.specs.Noted.{IsMoveOf, IsPinOf, IsToldBy}
 use Rattle.lisp_heap.specs.Recording.{HaveLabels, new_place, pin_by, placing_by, recorded}
 use Rattle.lisp_heap.specs.Standing.{LabelsStand}
+use Rattle.lisp_heap.proofs.WeakNoted.{labels_of, met_in, notes_are}
 
 -- ---- moves and pins with their names
 
@@ -62,19 +65,19 @@ all_pins a labels stand (q ∷ qs) h =
     ∙ ap (λ (xs : List PinAt). q ∷ xs) (all_pins a labels stand qs (All-tail (IsPinOf a) q qs h))
 
 -- the record
-pub recorded_is : (a : NamedHeap) (labels : List ℕ) (n : PassNotes) (r : PassRecord) → LabelsStand a labels → IsToldBy a r n → recorded labels n ≡ r
-recorded_is a labels n r stand told =
+pub recorded_is : (a : NamedHeap) (g h : ℕ) (labels : List ℕ) (n : PassNotes) (r : PassRecord) (told : IsToldBy a r n) → LabelsStand a labels → IsPass a g h r → recorded labels (met_in a r n told) n ≡ r
+recorded_is a g h labels n r told stand pass =
     let moves : map (placing_by labels) n.moves.items ≡ r.moves = ap (map (placing_by labels)) told.moves ∙ all_moves a labels stand r.moves told.moved in
     let pins : map (pin_by labels) n.pins.items ≡ r.pins = ap (map (pin_by labels)) told.pins ∙ all_pins a labels stand r.pins told.pinned in
-    same n.generation n.target (map (placing_by labels) n.moves.items) (map (pin_by labels) n.pins.items) n.freed.items n.dead n.kept r
-    told.generation told.target moves pins told.culls.1 told.breaks.1 told.queued.1 told.freed told.dead told.kept
+    same n.generation n.target (map (placing_by labels) n.moves.items) (map (pin_by labels) n.pins.items) (culls_of a (remains a r)) (breaks_of a (remains a r)) n.queued.items n.freed.items n.dead n.kept r
+    told.generation told.target moves pins (sym pass.culls) (sym pass.breaks) told.queued told.freed told.dead told.kept
   where
-    same : (generation target : ℕ) (moves : List Placing) (pins : List PinAt) (freed : List ℕ) (dead kept : ℕ) (r : PassRecord) → generation ≡ r.generation → target ≡ r.target →
-        moves ≡ r.moves → pins ≡ r.pins → r.culls ≡ [] → r.breaks ≡ [] → r.queued ≡ [] → freed ≡ r.freed → dead ≡ r.dead → kept ≡ r.kept →
+    same : (generation target : ℕ) (moves : List Placing) (pins : List PinAt) (culls : List Cull) (breaks queued freed : List ℕ) (dead kept : ℕ) (r : PassRecord) → generation ≡ r.generation → target ≡ r.target →
+        moves ≡ r.moves → pins ≡ r.pins → culls ≡ r.culls → breaks ≡ r.breaks → queued ≡ r.queued → freed ≡ r.freed → dead ≡ r.dead → kept ≡ r.kept →
         ◌≡◌ {A = PassRecord}
-        (record { generation = generation; target = target; moves = moves; pins = pins; culls = []; breaks = []; queued = []; freed = freed; dead = dead; kept = kept })
+        (record { generation = generation; target = target; moves = moves; pins = pins; culls = culls; breaks = breaks; queued = queued; freed = freed; dead = dead; kept = kept })
         (record { generation = r.generation; target = r.target; moves = r.moves; pins = r.pins; culls = r.culls; breaks = r.breaks; queued = r.queued; freed = r.freed; dead = r.dead; kept = r.kept })
-    same generation target moves pins freed dead kept r e1 e2 e3 e4 e5 e6 e7 e8 e9 e10 = cc
+    same generation target moves pins culls breaks queued freed dead kept r e1 e2 e3 e4 e5 e6 e7 e8 e9 e10 = cc
 
 -- ---- the indices have labels
 
@@ -83,14 +86,16 @@ half_below : (a : NamedHeap) (labels : List ℕ) → IsSound a → LabelsStand a
 half_below a labels sound stand name index o there is =
     omega (arith, (sound.objects name o there).placed.inside, size_least (kind_of o.contents) (payload_of o.contents), stand.long, is)
 
-pub have_labels : (a : NamedHeap) (labels : List ℕ) (n : PassNotes) (r : PassRecord) → IsSound a → LabelsStand a labels → IsToldBy a r n → HaveLabels labels n
-have_labels a labels n r sound stand told = record {
+pub have_labels : (a : NamedHeap) (labels : List ℕ) (n : PassNotes) (r : PassRecord) → IsSound a → length a.pages ≤ 1024 → LabelsStand a labels → IsToldBy a r n → HaveLabels labels n
+have_labels a labels n r sound few stand told = record {
   moves = All-same (λ (m : Move). m.old / 2 < length labels) n.moves.items (map noted r.moves) told.moves
       (All-map (λ (m : Move). m.old / 2 < length labels) noted r.moves
       (All-weaker (IsMoveOf a) (λ (m : Placing). m.old / 2 < length labels) (λ m h. half_below a labels sound stand m.name m.old h.o h.there h.old) r.moves told.moved));
   pins = All-same (λ (index : ℕ). index / 2 < length labels) n.pins.items (map (λ (q : PinAt). q.index) r.pins) told.pins
       (All-map (λ (index : ℕ). index / 2 < length labels) (λ (q : PinAt). q.index) r.pins
       (All-weaker (IsPinOf a) (λ (q : PinAt). q.index / 2 < length labels) (λ q h. half_below a labels sound stand q.name q.index h.o h.there h.index) r.pins told.pinned));
+  met = met_in a r n told;
+  weak = notes_are a r n told labels (labels_of a labels sound few stand);
 }
 
 -- ---- how long the lists are

@@ -250,7 +250,7 @@ same_words s h (Ref x) (Ref y) hv hw e =
     ]
 
 -- so two values are the same just where their words are
-told_in : (s : Inside) → IsSound s → (v w : Value) → IsLiving (heap s).objects v → IsLiving (heap s).objects w →
+pub told_in : (s : Inside) → IsSound s → (v w : Value) → IsLiving (heap s).objects v → IsLiving (heap s).objects w →
     (word_of (heap s).objects v ≡ word_of (heap s).objects w → same_value v w ≡ true) × (word_of (heap s).objects v ≢ word_of (heap s).objects w → same_value v w ≡ false)
 told_in s h v w hv hw = (
   (λ e. subst (λ (z : Value). same_value v z ≡ true) (same_words s h v w hv hw e) (same_value-self v)),

@@ -123,6 +123,7 @@ module _ (s : Inside) (h : IsSound s) (t : ℕ) (ty : PageType) (first k : ℕ) 
         stats = StatsStand-same a opened_heap s.stats refl refl refl h.holds.stats;
         counted = h.holds.counted;
         triggered = h.holds.triggered;
+        finalizers = record { registered = h.holds.finalizers.registered; queue = h.holds.finalizers.queue };
       }
 
   pub opened_holds : Holds (after s.program (heap s) (Opened t ty first k))

@@ -13,6 +13,7 @@ use Rattle.heap_terms.specs.Stands.{WordsStand}
 use Rattle.heap_terms.specs.Valid.{IsValid}
 use Rattle.heap_terms.specs.Spelling.{word_of}
 use Rattle.heap_laws.proofs.SoundHeaps.{start_thread_is, start_free}
+use Rattle.finalizers.specs.Standing.{FinalizersStand}
 use Rattle.generation_policy.specs.Numbers.{StatsStand, fresh_stats}
 use Rattle.lisp_heap.specs.CellsView.{spot, raw_spot, zero_cells}
 use Rattle.lisp_heap.specs.WorldSound.{IsSound, parts_of}
@@ -121,6 +122,10 @@ start_triggered : (p : Program) → 0 ≡ (start p).triggered
 unfolding start
 start_triggered p = refl
 
+start_finalizers : (p : Program) → FinalizersStand (start p) (record { registered = []; queue = [] })
+unfolding start
+start_finalizers p = record { registered = refl; queue = refl }
+
 holds_start : (p : Program) → Holds (start p) (fresh_parts p)
 holds_start p = record {
   words = start_words p;
@@ -133,6 +138,7 @@ holds_start p = record {
   stats = start_stats p;
   counted = start_counted p;
   triggered = start_triggered p;
+  finalizers = start_finalizers p;
 }
 
 no_scratch : (o : Option Scratch) (x : Scratch) → o ≡ None → o ≡ Some x → ⊥
@@ -151,5 +157,5 @@ starts_sound s valid empty parts scratch = record {
 -- a World whose fields are as at the start
 pub fresh_is : (s : Inside) → s.space ≡ replicate (page_words * s.program.pages) 0 → s.pages ≡ replicate s.program.pages Free →
     s.labels ≡ replicate (page_labels * s.program.pages) 0 → s.cells ≡ zero_cells (length s.program.threads) →
-    s.states ≡ replicate (length s.program.threads) fresh_state → s.pins ≡ replicate (length s.program.threads) [] → s.commits ≡ 0 → s.stats ≡ fresh_stats → s.counted ≡ 0 → s.triggered ≡ 0 → parts_of s ≡ fresh_parts s.program
-fresh_is s words pages labels cells states pins commits stats counted triggered = cc
+    s.states ≡ replicate (length s.program.threads) fresh_state → s.pins ≡ replicate (length s.program.threads) [] → s.commits ≡ 0 → s.stats ≡ fresh_stats → s.counted ≡ 0 → s.triggered ≡ 0 → s.finalizers ≡ record { registered = []; queue = [] } → parts_of s ≡ fresh_parts s.program
+fresh_is s words pages labels cells states pins commits stats counted triggered finalizers = cc

@@ -57,11 +57,13 @@ pub record HasSameNumbers (a b : NamedHeap) : Type 0 where
   pub num : b.num ≡ a.num
   pub counted : b.counted ≡ a.counted
   pub triggered : b.triggered ≡ a.triggered
+  pub finalizers : b.finalizers ≡ a.finalizers
+  pub queue : b.queue ≡ a.queue
 
 pub with_cell-numbers : (a : NamedHeap) (t : ℕ) (cell : Cell) (v : Value) → HasSameNumbers a (with_cell a t cell v)
-with_cell-numbers a t (Stack i) v = record { cum = refl; num = refl; counted = refl; triggered = refl }
-with_cell-numbers a t (Exact i) v = record { cum = refl; num = refl; counted = refl; triggered = refl }
-with_cell-numbers a t (Shared i) v = record { cum = refl; num = refl; counted = refl; triggered = refl }
+with_cell-numbers a t (Stack i) v = record { cum = refl; num = refl; counted = refl; triggered = refl; finalizers = refl; queue = refl }
+with_cell-numbers a t (Exact i) v = record { cum = refl; num = refl; counted = refl; triggered = refl; finalizers = refl; queue = refl }
+with_cell-numbers a t (Shared i) v = record { cum = refl; num = refl; counted = refl; triggered = refl; finalizers = refl; queue = refl }
 
 -- a write of a cell changes no object, no page and no state
 pub with_cell-objects : (a : NamedHeap) (t : ℕ) (cell : Cell) (v : Value) → (with_cell a t cell v).objects ≡ a.objects

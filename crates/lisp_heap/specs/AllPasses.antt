@@ -1,5 +1,5 @@
 -- The passes of a collection over the fields of a World, one after the other.
-use Rattle.std.specs.Prelude.{◌≡◌, ℕ, ◌+◌, ◌≤◌, List, All, Option, Some, None, length}
+use Rattle.std.specs.Prelude.{◌≡◌, ℕ, ◌+◌, ◌≤◌, List, [], All, Option, Some, None, length}
 use Rattle.copy_space.specs.declared.notes.Pass.{Pass}
 use Rattle.generation_policy.specs.declared.stats.GenStats.{GenStats}
 use Rattle.generation_policy.specs.Numbers.{StatsStand}
@@ -7,7 +7,7 @@ use Rattle.generation_policy.specs.Plan.{pass_over, planned}
 use Rattle.generation_policy.specs.SoFar.{ArePassesSoFar}
 use Rattle.heap_laws.specs.Numbers.{HasNumbers, most_passes}
 use Rattle.heap_terms.specs.declared.events.PassRecord.{PassRecord}
-use Rattle.heap_terms.specs.declared.limits.TheConstants.{MOST_COMMANDS, OLDEST_COLLECTED}
+use Rattle.heap_terms.specs.declared.limits.TheConstants.{MOST_COMMANDS, MOST_PAGES, OLDEST_COLLECTED}
 use Rattle.heap_terms.specs.declared.pages.Entry.{Entry}
 use Rattle.heap_terms.specs.declared.programs.Program.{Program}
 use Rattle.heap_terms.specs.Collections.{ArePasses, IsPassOf, after_pass_of, after_passes}
@@ -15,10 +15,11 @@ use Rattle.heap_terms.specs.Heap.{NamedHeap}
 use Rattle.heap_terms.specs.WellFormed.{IsWellFormed}
 use Rattle.pass_laws.specs.NoRegions.{HasNoRegions, IsEmptyBelow}
 use Rattle.trace_laws.specs.Rooted.{Rooted, StandFor}
-use Rattle.trace_laws.specs.Traced.{IsStrongHeap}
+use Rattle.pair_laws.specs.Counts.{pair_count}
 use Rattle.lisp_heap.specs.Recording.{HasRoom}
 use Rattle.lisp_heap.specs.Standing.{LabelsStand}
 use Rattle.lisp_heap.specs.declared.recording.RecordRoom.{RecordRoom}
+use Rattle.lisp_heap.specs.declared.recording.RecordSizes.{RecordSizes}
 
 -- After n passes the fields stand for a heap whose exact roots have the same values as those of the first, and this heap is
 -- of the same program, as long, and so that a further pass can be made and counted.
@@ -29,9 +30,10 @@ pub record StandNow (h : Rooted) (b : NamedHeap) (n : ℕ) (words : List ℕ) (p
   pub program : Program
   pub formed : IsWellFormed program b
   pub regions : HasNoRegions b
-  pub strong : IsStrongHeap b
+  pub pairs_few : pair_count b ≤ pair_count h.heap
   pub numbers : HasNumbers b (most_passes + n)
   pub few : length b.objects ≤ MOST_COMMANDS
+  pub few_pages : length b.pages ≤ MOST_PAGES
   pub objects_long : length b.objects ≡ length h.heap.objects
   pub pages_long : length b.pages ≡ length h.heap.pages
 
@@ -59,6 +61,6 @@ pub record IsStepped (h : Rooted) (last n : ℕ) (pass : Pass) (words : List ℕ
   pub stand : StandNow h (after_pass_of h.heap last n r) (n + 1) words pages labels exact ambiguous stats
   pub plan_is : plan ≡ planned (after_pass_of h.heap last n r) last (Some pass)
 
--- rooms for records of so many moves, pins and freed pages
-abbrev pub AreRooms : List RecordRoom → ℕ → ℕ → ℕ → Type 0
-AreRooms rooms moves pins freed = All (λ (room : RecordRoom). HasRoom room moves pins freed) rooms
+-- rooms for records of these sizes
+abbrev pub AreRooms : List RecordRoom → RecordSizes → Type 0
+AreRooms rooms sizes = All (λ (room : RecordRoom). HasRoom room sizes) rooms

@@ -13,6 +13,7 @@ pub mod Wishes
 pub mod Commits
 pub mod Counting
 pub mod LivingWords
+pub mod LookUps
 pub mod Leases
 pub mod Ready
 pub mod Rooting
@@ -22,3 +23,5 @@ pub mod ParcelSound
 pub mod Kept
 pub mod Counted
 pub mod AllPasses
+pub mod FinalizerPlan
+pub mod Recalling

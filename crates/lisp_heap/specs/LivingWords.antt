@@ -1,5 +1,5 @@
 -- What the words of values are read as: the objects to which they refer, and where fields and raw words lie.
-use Rattle.std.specs.Prelude.{◌≡◌, ℕ, ◌+◌, List, Option, Some, None}
+use Rattle.std.specs.Prelude.{◌≡◌, ◌≢◌, ℕ, ◌+◌, List, Option, Some, None}
 use Rattle.heap_terms.specs.declared.cells.Value.{Value}
 use Rattle.heap_terms.specs.declared.cells.Value.TheVariants as values
 use Rattle.heap_terms.specs.declared.kinds.Kind.{Kind}
@@ -29,6 +29,11 @@ abbrev pub IsReferent : List (Option Object) → Value → Option Referent → T
 IsReferent objects v None = name_in v ≡ None
 IsReferent objects v (Some r) =
     (o : Object) × RefersTo objects v o × (r.index ≡ o.place) × (r.kind ≡ kind_of o.contents) × (r.n ≡ payload_of o.contents)
+
+-- where the object of a kind begins to which a value refers, or that it refers to none of that kind
+abbrev pub IsOfKind : List (Option Object) → Value → Kind → Option ℕ → Type 0
+IsOfKind objects v kind None = (o : Object) → RefersTo objects v o → kind_of o.contents ≢ kind
+IsOfKind objects v kind (Some index) = (o : Object) × RefersTo objects v o × (kind_of o.contents ≡ kind) × (index ≡ o.place)
 
 -- how many words stand before the payload: the header, which conses lack
 abbrev pub header_words : Kind → ℕ

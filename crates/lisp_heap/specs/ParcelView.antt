@@ -84,6 +84,15 @@ with_small q types.Cons r = record q { cons = r }
 with_small q types.Boxed r = record q { boxed = r }
 with_small q types.Unboxed r = record q { unboxed = r }
 
+-- a region that is filled up to an index, in which nothing is built
+abbrev pub lease_at : PageType → ℕ → ℕ → ℕ → LeaseView
+lease_at ty first k next = record { ty = ty; first = first; pages = k; next = next; built = None }
+
+-- a parcel after a region came: one of one page is its small region of the type, in place of the one that was there; a
+-- longer one is its run
+abbrev pub with_lease : ParcelView → LeaseView → ParcelView
+with_lease q r = if r.pages == 1 then with_small q r.ty (Some r) else record q { run = Some r }
+
 -- a region of k pages that was just opened
 abbrev pub fresh_lease : PageType → ℕ → ℕ → LeaseView
 fresh_lease ty first k = record { ty = ty; first = first; pages = k; next = page_words * first; built = None }

@@ -4,6 +4,7 @@ use Rattle.heap_terms.specs.declared.pages.Entry.{Entry}
 use Rattle.heap_terms.specs.declared.pages.Entry.TheVariants as entries
 use Rattle.heap_terms.specs.declared.programs.Program.{Program}
 use Rattle.heap_terms.specs.Layout.{page_words}
+use Rattle.finalizers.specs.Lists.{Lists}
 use Rattle.generation_policy.specs.Numbers.{fresh_stats}
 use Rattle.generation_policy.specs.declared.stats.GenStats.{GenStats}
 use Rattle.lisp_heap.specs.CellsView.{CellsView, zero_cells}
@@ -16,7 +17,8 @@ page_labels = 256
 
 -- The words of the space, the entry of each page, the label of each double word, the words in the cells, of each
 -- thread its place in its script, what it owes and its open regions, the pins of each thread, how many objects were
--- committed, the policy's numbers, and for `auto` how many words were counted and how many commits asked for a collection.
+-- committed, the policy's numbers, for `auto` how many words were counted and how many commits asked for a collection, and
+-- the finalizers with their queue.
 pub record Parts : Type 0 where
   pub words : List ℕ
   pub pages : List Entry
@@ -28,9 +30,10 @@ pub record Parts : Type 0 where
   pub stats : GenStats
   pub counted : ℕ
   pub triggered : ℕ
+  pub finalizers : Lists
 
 -- before the first event: every word, label, cell and number is 0, every page is free, no thread has done anything, and
--- nothing is pinned
+-- nothing is pinned or finalized
 abbrev pub fresh_parts : Program → Parts
 fresh_parts p = record {
   words = replicate (page_words * p.pages) 0;
@@ -43,4 +46,5 @@ fresh_parts p = record {
   stats = fresh_stats;
   counted = 0;
   triggered = 0;
+  finalizers = record { registered = []; queue = [] };
 }

@@ -3,6 +3,7 @@ use Rattle.std.specs.Prelude.{◌≡◌, ℕ, ◌*◌, ◌/◌, ◌<◌, List, l
 use Rattle.heap_terms.specs.Heap.{NamedHeap, Thread, thread_at, object_at, zero_value}
 use Rattle.heap_terms.specs.Stands.{WordsStand}
 use Rattle.heap_terms.specs.Spelling.{word_of}
+use Rattle.finalizers.specs.Standing.{FinalizersStand}
 use Rattle.generation_policy.specs.Numbers.{StatsStand}
 use Rattle.lisp_heap.specs.CellsView.{CellsView, cells_each, raws_each, spot, raw_spot}
 use Rattle.lisp_heap.specs.Parts.{Parts, page_labels}
@@ -43,3 +44,4 @@ pub record Holds (a : NamedHeap) (v : Parts) : Type 0 where
   pub stats : StatsStand a v.stats
   pub counted : v.counted ≡ a.counted
   pub triggered : v.triggered ≡ a.triggered
+  pub finalizers : FinalizersStand a v.finalizers

@@ -1,5 +1,6 @@
 -- What every World keeps true.
 use Rattle.std.specs.Prelude.{ℕ, ◌*◌, length}
+use Rattle.std.specs.List.{sum_by}
 use Rattle.std.specs.Option.{ForSome}
 use Rattle.heap_terms.specs.declared.programs.Program.{Program}
 use Rattle.heap_terms.specs.Histories.{Lawful, replay}
@@ -23,6 +24,7 @@ parts_of s = record {
   stats = s.stats;
   counted = s.counted;
   triggered = s.triggered;
+  finalizers = s.finalizers;
 }
 
 abbrev pub view_of : Inside → View
@@ -32,9 +34,10 @@ view_of s = record { program = s.program; history = s.history.items; parts = par
 abbrev pub most_ambiguous : ℕ
 most_ambiguous = 56
 
--- the room for passes is there for all pages of a program and all words of its threads that pin
+-- the room for passes is there for all pages of a program, all words of its threads that pin, and as many weak pointers and
+-- tables as it has commands
 abbrev pub IsRoomFor : Program → Scratch → Type 0
-IsRoomFor p x = IsReservedFor x.room p.pages (most_ambiguous * length p.threads)
+IsRoomFor p x = IsReservedFor x.room p.pages (most_ambiguous * length p.threads) (sum_by length p.threads)
 
 -- its program is valid, its history is lawful, what it keeps stands for the heap that the history leaves, and room for
 -- passes, once it is made, is enough

@@ -31,7 +31,7 @@ impl World {
     }
 
     /// The state of a thread. A number that no thread has stands for a thread that has ended.
-    fn thread_state(&self, t: usize) -> ThreadState
+    pub(crate) fn thread_state(&self, t: usize) -> ThreadState
         ensures state { result ≡ state_of (thread_at (heap_of self.now) t) }
         ensures pages { (ty : PageType) → ForSome (state_page result ty) (λ page. page < length (heap_of self.now).pages) }
         ensures run { ForSome result.open_run (λ page. page < length (heap_of self.now).pages) }
@@ -90,7 +90,7 @@ impl World {
     }
 
     /// How many words of a page are used.
-    fn fill(&self, page: u32) -> u32
+    pub(crate) fn fill(&self, page: u32) -> u32
         requires { page < length (heap_of self.now).pages }
         ensures value { result ≡ fill_of (entry_at (heap_of self.now).pages page) }
         ensures most { result ≤ page_words }

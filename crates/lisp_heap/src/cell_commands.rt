@@ -15,7 +15,7 @@ use heap_terms::{Answer, Cell};
 use lisp_words::fixnum;
 
 /// The word of NIL. The number is this project's own.
-const NIL_WORD: u64 = 0x117;
+pub(crate) const NIL_WORD: u64 = 0x117;
 
 impl World {
     /// The word in a cell of thread t.

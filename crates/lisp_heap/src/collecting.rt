@@ -14,9 +14,9 @@ ghost use Rattle.lisp_heap.specs.WorldSound.{IsRoomFor};
 
 use crate::all_passes::make_passes;
 use crate::parcels::Parcel;
-use crate::recording::{MOST_PASSES, reserve_rooms};
+use crate::recording::{MOST_PASSES, RecordSizes, reserve_rooms};
 use crate::rooting::gather;
-use crate::scratch::Scratch;
+use crate::scratch::{Scratch, commands_of};
 use crate::world::World;
 use heap_terms::{Event, Memory, Next, Seq};
 
@@ -120,6 +120,7 @@ impl World {
                 self.alloc,
                 self.program.pages,
                 self.program.threads.len() as u32,
+                commands_of(&self.program),
             ),
         }
     }
@@ -138,14 +139,26 @@ impl World {
         ensures err { OnErr result (self.new ≡ self.old) }
     {
         gather(&self.cells, &self.pins, &mut scratch.roots)?;
-        let pinned = scratch.roots.ambiguous.len();
-        let rooms = reserve_rooms(self.alloc, self.commits, pinned, self.pages.len())?;
+        let objects = self.commits as usize;
+        let queued = self.finalizers.len();
+        let sizes = RecordSizes {
+            moves: objects,
+            pins: scratch.roots.ambiguous.len(),
+            // Each event adds one pair at most.
+            culls: self.history.len(),
+            breaks: objects,
+            queued: queued as usize,
+            freed: self.pages.len() as usize,
+        };
+        let rooms = reserve_rooms(self.alloc, sizes)?;
+        scratch.room.reserve_queued(queued)?;
         let mut passes = Vec::with_capacity(self.alloc, MOST_PASSES)?;
         self.history.reserve(1)?;
         self.states.close_regions();
         make_passes(
             &mut self.space,
             &mut self.pages,
+            &mut self.finalizers,
             &mut self.labels,
             scratch,
             &mut self.stats,

@@ -14,6 +14,7 @@ mod committing;
 mod counting;
 mod due;
 mod field_commands;
+mod finalizer_commands;
 mod inhibit_commands;
 mod kept;
 mod new_world;
@@ -24,19 +25,22 @@ mod pin_commands;
 mod pins;
 mod plan;
 mod raw_commands;
+mod recalling;
 mod recording;
 mod referents;
 mod rooting;
 mod scratch;
 mod stat_commands;
 mod states;
+mod table_commands;
+mod weak_commands;
 mod wishes;
 mod world;
 
 pub use allocating::Lent;
 pub use collecting::CollectFault;
 pub use heap_terms::Next;
-pub use parcels::Parcel;
+pub use parcels::{Parcel, put_away_all};
 pub use world::World;
 
 #[cfg(test)]

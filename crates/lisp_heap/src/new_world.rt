@@ -10,6 +10,7 @@ use crate::parcels::Parcel;
 use crate::pins::Pins;
 use crate::states::States;
 use crate::world::World;
+use finalizers::Finalizers;
 use generation_policy::GenStats;
 use heap_terms::{Memory, Program};
 use page_table::PageTable;
@@ -60,6 +61,7 @@ impl World {
         let history = Vec::with_capacity(alloc, events_of(&program))?;
         let parcels = fresh_parcels(alloc, threads as u32)?;
         let stats = GenStats::new();
+        let finalizers = Finalizers::new(alloc);
         let world = World {
             alloc,
             program,
@@ -73,6 +75,7 @@ impl World {
             stats,
             counted: 0,
             triggered: 0,
+            finalizers,
             history,
             scratch: None,
         };

@@ -9,7 +9,7 @@ ghost use Rattle.heap_terms.specs.Regions.{is_small};
 ghost use Rattle.heap_terms.specs.Spelling.{spelling};
 ghost use Rattle.alloc_region.specs.View.{opened_region};
 ghost use Rattle.lisp_heap.specs.Leases.{lease_view, IsLease, IsSmallLease};
-ghost use Rattle.lisp_heap.specs.ParcelView.{Fits, HasRoom, HasBuilt, IsMaking, LeaseView, empty_parcel, fresh_lease, one_if, place_of, region_accepted, region_built, region_for, regions_in, small_region, with_accepted, with_built, with_region};
+ghost use Rattle.lisp_heap.specs.ParcelView.{Fits, HasRoom, HasBuilt, IsMaking, LeaseView, empty_parcel, lease_at, one_if, place_of, region_accepted, region_built, region_for, regions_in, small_region, with_accepted, with_built, with_lease, with_region};
 
 use alloc_region::Region;
 use heap_terms::{Kind, Owned, PAGE_WORDS, PageType};
@@ -45,7 +45,7 @@ pub struct Lease {
 }
 
 /// The open regions of one thread: a small one of each type, and one run for a large object. It
-/// has to be spent, by [`Parcel::put_away`]. Only `World::new` makes parcels.
+/// has to be spent, by [`Parcel::put_away`]. Only `World::new` and `World::recall` make parcels.
 pub struct Parcel {
     owner: u32,
     cons: Option<Lease>,
@@ -96,6 +96,14 @@ fn put_back(slot: Option<Lease>) -> u32
             1
         }
     }
+}
+
+/// Puts all parcels of a list away. It takes no memory.
+pub fn put_away_all(mut parcels: Vec<Parcel>) {
+    while let Some(parcel) = parcels.pop() {
+        let _regions = parcel.put_away();
+    }
+    parcels.destroy_empty();
 }
 
 /// Builds an object in the region of a slot.
@@ -163,10 +171,10 @@ fn built_in(slot: &Option<Lease>, making: Making) -> &[u64]
     }
 }
 
-/// Puts a region that was just opened into a slot, in place of the one that is there.
+/// Puts a region in which nothing is built into a slot, in place of the one that is there.
 fn adopt_in(slot: &mut Option<Lease>, region: Region)
-    requires { region ≡ opened_region region.ty region.first region.pages }
-    ensures view { option_map lease_view slot.new ≡ Some (fresh_lease region.ty region.first region.pages) }
+    requires { region.built ≡ [] }
+    ensures view { option_map lease_view slot.new ≡ Some (lease_at region.ty region.first region.pages region.next) }
     ensures lease { ForSome slot.new IsLease }
     ensures small { region.pages ≡ 1 → ForSome slot.new (IsSmallLease region.ty) }
 {
@@ -338,10 +346,12 @@ impl Parcel {
         built_in(self.slot(making.kind, making.n), making)
     }
 
-    /// Takes a region that was just opened, in place of the one that is there.
+    /// Takes a region in which nothing is built, in place of the one that is there.
     pub(crate) fn adopt(&mut self, region: Region)
-        requires { region ≡ opened_region region.ty region.first region.pages }
-        ensures { self.new ≡ with_region self.old region.ty region.first region.pages }
+        requires { region.built ≡ [] }
+        ensures lease { self.new ≡ with_lease self.old (lease_at region.ty region.first region.pages region.next) }
+        ensures opened { region ≡ opened_region region.ty region.first region.pages →
+            self.new ≡ with_region self.old region.ty region.first region.pages }
     {
         if region.pages() != 1 {
             adopt_in(&mut self.run, region);

@@ -2,33 +2,54 @@
 
 ghost use Rattle.std.specs.Prelude.{◌≡◌, ◌+◌, ◌/◌, ◌<◌, ◌≤◌, ◌++◌, length, map, All, IfOk, IfSome, vec_len, vec_capacity};
 ghost use Rattle.copy_space.specs.declared.notes.Move.{Move};
+ghost use Rattle.pass_names.specs.Named.{AreNotes, Met};
 ghost use Rattle.lisp_heap.specs.AllPasses.{AreRooms};
-ghost use Rattle.lisp_heap.specs.Recording.{CanRelabel, HasRoom, HaveLabels, labelled_by, new_place, pin_by, placing_by, recorded, relabelled};
+ghost use Rattle.lisp_heap.specs.Recording.{CanRelabel, HasRoom, HaveLabels, labelled_by, new_place, pin_by, placing_by, recorded, relabelled, sizes_noted};
 
 use copy_space::{Move, PassNotes};
 use heap_terms::{Memory, PassRecord, PinAt, Placing, Seq};
+use pass_names::{NameRoom, Weakened};
 use std::alloc::Global;
 use word_space::Prefilled;
+
+/// How many entries the lists of the record of a pass have at most.
+#[derive(Clone, Copy)]
+pub struct RecordSizes {
+    /// Moves and stays.
+    pub moves: usize,
+    /// Pinned objects.
+    pub pins: usize,
+    /// Culled pairs.
+    pub culls: usize,
+    /// Broken weak pointers.
+    pub breaks: usize,
+    /// Queued finalizers.
+    pub queued: usize,
+    /// Freed pages.
+    pub freed: usize,
+}
 
 /// Room for the lists of the record of a pass, which are empty so far.
 #[derive(Drop)]
 pub struct RecordRoom {
-    alloc: Global,
     pub(crate) moves: Vec<Placing>,
     pub(crate) pins: Vec<PinAt>,
+    pub(crate) weak: NameRoom,
+    pub(crate) queued: Vec<u32>,
     pub(crate) freed: Vec<u32>,
 }
 
 impl RecordRoom {
-    /// Room for so many moves, pins and freed pages.
-    pub fn reserve(alloc: Global, moves: u32, pins: usize, freed: u32) -> Result<RecordRoom, Memory>
-        ensures { IfOk result (λ room. HasRoom room moves pins freed) }
+    /// Room for lists of these sizes.
+    pub fn reserve(alloc: Global, sizes: RecordSizes) -> Result<RecordRoom, Memory>
+        ensures { IfOk result (λ room. HasRoom room sizes) }
     {
         Ok(RecordRoom {
-            alloc,
-            moves: Vec::with_capacity(alloc, moves as usize)?,
-            pins: Vec::with_capacity(alloc, pins)?,
-            freed: Vec::with_capacity(alloc, freed as usize)?,
+            moves: Vec::with_capacity(alloc, sizes.moves)?,
+            pins: Vec::with_capacity(alloc, sizes.pins)?,
+            weak: NameRoom::reserve(alloc, sizes.culls, sizes.breaks)?,
+            queued: Vec::with_capacity(alloc, sizes.queued)?,
+            freed: Vec::with_capacity(alloc, sizes.freed)?,
         })
     }
 }
@@ -36,19 +57,14 @@ impl RecordRoom {
 /// How many passes a collection has at most.
 pub(crate) const MOST_PASSES: usize = 6;
 
-/// Rooms for the records of all passes of a collection, each for so many moves, pins and freed pages.
-pub fn reserve_rooms(
-    alloc: Global,
-    moves: u32,
-    pins: usize,
-    freed: u32,
-) -> Result<Vec<RecordRoom>, Memory>
-    ensures rooms { IfOk result (λ rooms. AreRooms rooms.items moves pins freed) }
+/// Rooms for the records of all passes of a collection, each for lists of these sizes.
+pub fn reserve_rooms(alloc: Global, sizes: RecordSizes) -> Result<Vec<RecordRoom>, Memory>
+    ensures rooms { IfOk result (λ rooms. AreRooms rooms.items sizes) }
     ensures six { IfOk result (λ rooms. vec_len rooms ≡ 6) }
 {
     let mut rooms = Vec::with_capacity(alloc, MOST_PASSES)?;
     for n in 0..MOST_PASSES {
-        rooms.push_reserved(RecordRoom::reserve(alloc, moves, pins, freed)?);
+        rooms.push_reserved(RecordRoom::reserve(alloc, sizes)?);
     }
     Ok(rooms)
 }
@@ -92,26 +108,29 @@ fn add_pinned(indices: &[u32], labels: &Prefilled<u32>, out: &mut Vec<PinAt>)
 /// What the notes of a pass tell, in names, by the labels before the pass.
 pub fn write_record(notes: &PassNotes, labels: &Prefilled<u32>, room: RecordRoom) -> PassRecord
     requires labels { HaveLabels labels.now notes.now }
-    requires room { HasRoom room (length notes.now.moves.items) (length notes.now.pins.items) (length notes.now.freed.items) }
-    ensures { result ≡ recorded labels.now notes.now }
+    requires room { HasRoom room (sizes_noted notes.now) }
+    ensures { (m : Met) → AreNotes m labels.now notes.now → result ≡ recorded labels.now m notes.now }
 {
     let RecordRoom {
-        alloc,
         mut moves,
         mut pins,
+        weak,
+        mut queued,
         mut freed,
     } = room;
     add_moves(notes.moves.as_slice(), labels, &mut moves);
     add_pinned(notes.pins.as_slice(), labels, &mut pins);
+    let Weakened { culls, breaks } = weak.name(notes, labels);
+    queued.extend_from_slice(notes.queued.as_slice()).unwrap();
     freed.extend_from_slice(notes.freed.as_slice()).unwrap();
     PassRecord {
         generation: notes.generation,
         target: notes.target,
         moves: Seq::from_vec(moves),
         pins: Seq::from_vec(pins),
-        culls: Seq::new(alloc),
-        breaks: Seq::new(alloc),
-        queued: Seq::new(alloc),
+        culls,
+        breaks,
+        queued: Seq::from_vec(queued),
         freed: Seq::from_vec(freed),
         dead: notes.dead,
         kept: notes.kept,

@@ -7,7 +7,7 @@ ghost use Rattle.heap_terms.specs.Heap.{object_at};
 ghost use Rattle.heap_terms.specs.Objects.{Object, kind_of, payload_of};
 ghost use Rattle.heap_terms.specs.WellFormed.{IsLiving};
 ghost use Rattle.heap_terms.specs.Spelling.{word_of};
-ghost use Rattle.lisp_heap.specs.LivingWords.{AreFields, AreRaws, IsReferent, IsWord};
+ghost use Rattle.lisp_heap.specs.LivingWords.{AreFields, AreRaws, IsOfKind, IsReferent, IsWord};
 ghost use Rattle.lisp_heap.specs.View.{heap_of};
 
 use crate::world::World;
@@ -68,6 +68,17 @@ impl World {
             }
         };
         Some(Referent { index, kind, n })
+    }
+
+    /// Where the object of a kind begins to which a word refers; `None` where it refers to none of that
+    /// kind.
+    pub(crate) fn object_of_kind(&self, word: u64, wanted: Kind) -> Option<u32>
+        requires { IsWord (heap_of self.now) word }
+        ensures { (v : NamedValue) → IsLiving (heap_of self.now).objects v →
+            word ≡ word_of (heap_of self.now).objects v → IsOfKind (heap_of self.now).objects v wanted result }
+    {
+        let Referent { index, kind, .. } = self.referent(word)?;
+        if kind == wanted { Some(index) } else { None }
     }
 
     /// Where the fields are of the object to which a word refers; `None` where it refers to no

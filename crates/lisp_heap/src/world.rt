@@ -26,6 +26,7 @@ use crate::plan::{Plan, apply};
 use crate::scratch::Scratch;
 use crate::states::{States, ThreadState};
 use crate::wishes::wish;
+use finalizers::Finalizers;
 use generation_policy::GenStats;
 use heap_terms::{Command, Entry, Event, Kind, Memory, Next, PAGE_WORDS, PageType, Program};
 use lisp_words::{page_type, size_of};
@@ -54,6 +55,8 @@ pub struct World {
     pub(crate) counted: u64,
     /// How many commits let `auto` ask for a collection.
     pub(crate) triggered: u32,
+    /// What is registered for objects, and what waits to be run.
+    pub(crate) finalizers: Finalizers,
     pub(crate) history: Vec<Event>,
     /// What collections work with. A script without collections never needs it.
     pub(crate) scratch: Option<Scratch>,
@@ -350,6 +353,20 @@ impl World {
                 let plan = self.told(t as usize, g);
                 self.carry_out(t, command, plan)
             }
+            Command::WeakVal { d, c } => {
+                let plan = self.weak_read(t as usize, d, c);
+                self.carry_out(t, command, plan)
+            }
+            Command::TableCount { c } => {
+                let plan = self.pairs_counted(t as usize, c);
+                self.carry_out(t, command, plan)
+            }
+            Command::TablePut { c, k, v } => self.put_pair(t, c, k, v),
+            Command::TableGet { d, c, k } => self.get_value(t, d, c, k),
+            Command::TableRem { c, k } => self.remove_pair(t, c, k),
+            Command::Finalize { c, id } => self.finalized(t, command, c, id),
+            Command::Cancel { c } => self.cancelled(t, command, c),
+            Command::RunFinalizers => self.ran(t, command),
             // These allocate.
             Command::NewCons { .. }
             | Command::NewVector { .. }
@@ -358,21 +375,12 @@ impl World {
             | Command::NewWords { .. }
             | Command::NewWeak { .. }
             | Command::NewTable { .. } => unreachable!(),
-            // These are not built yet.
-            Command::WeakVal { .. }
-            | Command::TablePut { .. }
-            | Command::TableGet { .. }
-            | Command::TableRem { .. }
-            | Command::TableCount { .. }
-            | Command::Finalize { .. }
-            | Command::Cancel { .. }
-            | Command::RunFinalizers => unreachable!(),
         }
     }
 
     /// Thread t's command is answered, and the word that it changes is written.
     #[inline(always)]
-    fn carry_out(&mut self, t: u32, command: Command, plan: Plan) -> Result<(), Memory>
+    pub(crate) fn carry_out(&mut self, t: u32, command: Command, plan: Plan) -> Result<(), Memory>
         requires thread { t < length self.old.program.threads }
         requires command { command_at self.old.program (heap_of self.old) t ≡ Some command }
         requires simple { next_of self.old t ≡ Next.Simple }

@@ -1,6 +1,6 @@
 //! References: a byte address of a double word plus a lowtag in the low four bits, as in SBCL.
 
-ghost use Rattle.std.specs.Prelude.{◌≡◌, ◌<◌, ◌%◌, ℕ, IfSome, IsNone};
+ghost use Rattle.std.specs.Prelude.{◌≡◌, ◌+◌, ◌*◌, ◌<◌, ℕ, IfSome, IsNone};
 ghost use Rattle.heap_terms.specs.Layout.{reference_word, lowtag_of};
 ghost use Rattle.lisp_words.specs.declared.pointers.Lowtag.{Lowtag};
 ghost use Rattle.lisp_words.specs.Tagged.{IsTagged, tag_bits};
@@ -24,6 +24,7 @@ pub enum Lowtag {
 }
 
 /// The word of a reference to an object of a kind that starts at an index.
+#[inline(always)]
 pub fn tag(index: u32, kind: Kind) -> u64
     ensures { result ≡ reference_word index kind }
 {
@@ -44,28 +45,29 @@ fn bits(kind: Kind) -> u64
 
 /// The index and the lowtag of a reference; `None` exactly where the word is no address of an even
 /// index below 524,288 plus one of the four lowtags.
+#[inline(always)]
 pub fn untag(word: u64) -> Option<(u32, Lowtag)>
     ensures tagged { IfSome result (λ found. IsTagged word found.0 found.1) }
     ensures only { (index : ℕ) (tag : Lowtag) → IsTagged word index tag → result ≡ Some (index, tag) }
     ensures none { IsNone result → (index : ℕ) (tag : Lowtag) → IsTagged word index tag → ⊥ }
 {
-    if word < BASE || word >= BASE + 8 * u64::from(MOST_WORDS) {
+    if word % 4 != 3 || word < BASE || word >= BASE + 8 * u64::from(MOST_WORDS) {
         return None;
     }
-    let lowtag = lowtag_of_bits(word % 16)?;
-    Some(((word - BASE) as u32 / 16 * 2, lowtag))
+    let index = (word - BASE) as u32 / 16 * 2;
+    Some((index, lowtag_of(word / 4 % 4)))
 }
 
-/// The lowtag of four bits.
-fn lowtag_of_bits(bits: u64) -> Option<Lowtag>
-    ensures tag { IfSome result (λ tag. bits ≡ tag_bits tag) }
-    ensures none { IsNone result → (tag : Lowtag) → bits ≡ tag_bits tag → ⊥ }
+/// The lowtag by its upper two bits; the lower two are set in each.
+#[inline(always)]
+fn lowtag_of(bits: u64) -> Lowtag
+    requires { bits < 4 }
+    ensures { tag_bits result ≡ 4 * bits + 3 }
 {
     match bits {
-        3 => Some(Lowtag::Instance),
-        7 => Some(Lowtag::List),
-        11 => Some(Lowtag::Function),
-        15 => Some(Lowtag::Other),
-        _ => None,
+        0 => Lowtag::Instance,
+        1 => Lowtag::List,
+        2 => Lowtag::Function,
+        _ => Lowtag::Other,
     }
 }

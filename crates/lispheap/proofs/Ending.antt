@@ -11,6 +11,7 @@ use Rattle.lispheap.specs.declared.faults.Fault.TheVariants as faults
 use Rattle.lispheap.specs.Answers.{Change, Answers, Ends, EndsEither, Failed, IsExact, IsForm, IsReplay, IsUntouched, Replays, asks_for_steps, input_limit, status_for, status_read}
 use Rattle.lispheap.specs.Journals.{IsJournal}
 use Rattle.lispheap.specs.Generating.{EndsGenerating, Generates, IsGenerate}
+use Rattle.lispheap.specs.OnThreads.{IsRun}
 use Rattle.lispheap.specs.Texts.{status_of}
 use Rattle.lispheap.proofs.Saying.{ok_from}
 
@@ -19,6 +20,10 @@ pub apart : (words : List (List ℕ)) → IsReplay words → IsGenerate words �
 unfolding wanted wanted_after
 apart words (inl one) generate = false≢true (subst IsGenerate one generate)
 apart words (inr two) generate = false≢true (subst IsGenerate two generate)
+
+pub run_apart : (words : List (List ℕ)) → IsRun words → IsGenerate words → ⊥
+unfolding wanted wanted_after
+run_apart words one generate = false≢true (subst IsGenerate one generate)
 
 -- what a replay and the generator leave is how the call ends
 pub replay_failed : (f : Fault) (words : List (List ℕ)) (source out : Change) → IsReplay words → Replays (IsJournal (asks_for_steps words)) (Some f) source out → Ends (Some f) words source out

@@ -3,3 +3,4 @@ pub mod Streams
 pub mod Journals
 pub mod Generating
 pub mod Answers
+pub mod OnThreads

@@ -1,9 +1,10 @@
-//! The program: it reads a script, replays it, and writes the journal of what happened; or it makes a
-//! script of its own.
+//! The program: it reads a script, runs it by its schedule or on threads, and writes the journal of
+//! what happened; or it makes a script of its own.
 #![tactic(auto)]
 
 mod faults;
 mod generating;
+mod on_threads;
 mod still;
 #[cfg(test)]
 mod tests;
@@ -11,17 +12,21 @@ mod tests;
 use faults::{Fault, say};
 use heap_io::{StdSink, StdSource};
 use heap_terms::Memory;
+use on_threads::lispheap;
 use std::env;
 use std::io::ErrorKind;
 use std::process::ExitCode;
-use still::lispheap_still;
+use std::sync::Wait;
+use std::thread::Threads;
+use thread_scripts::OpenGate;
 
 fn main(rt: HostRuntime) -> ExitCode {
-    ExitCode::from(run(&rt))
+    ExitCode::from(run(&rt, &rt))
 }
 
-/// Hands the words after the program's name to the call that does them.
-fn run(rt: &HostRuntime) -> u8 {
+/// Hands the words after the program's name to the call that does them. Threads are started with the
+/// second handle, which is the same.
+fn run<R: Threads + Wait + Sync>(rt: &HostRuntime, threads: &R) -> u8 {
     let mut err = StdSink::new(rt.stderr());
     let Ok(words) = words(rt) else {
         let _ = say(&mut err, Fault::Memory);
@@ -29,7 +34,15 @@ fn run(rt: &HostRuntime) -> u8 {
     };
     let mut source = StdSource::new(rt.stdin());
     let mut out = StdSink::new(rt.stdout());
-    lispheap_still(rt.alloc(), &words, &mut source, &mut out, &mut err)
+    lispheap(
+        threads,
+        rt.alloc(),
+        &words,
+        &mut source,
+        &mut out,
+        &mut err,
+        &OpenGate,
+    )
 }
 
 /// The words after the program's name. Where one of them is no text the answer is no words, which

@@ -3,8 +3,12 @@
 ghost use Rattle.std.specs.Prelude.{◌≤◌};
 
 mod collections;
+mod finalizing;
 mod generations;
 mod generator;
+mod tables;
+mod threads;
+mod weakness;
 
 use crate::still::lispheap_still;
 use heap_io::{MemorySink, MemorySource};

@@ -23,8 +23,26 @@ pub struct Found {
 }
 
 /// The object of which this is the first word. A word that is no header is the first value of a
-/// cons.
+/// cons, and no value of a cons is 1 modulo 4, as headers are.
+#[inline(always)]
 pub(crate) fn object_at(index: u32, word: u64) -> Found
+    requires begins { IsFirstWord word }
+    requires below { index < MOST_WORDS }
+    ensures { (kind : Kind) (n : ℕ) → BeginsWith kind n word → result ≡ found_at (record { index = index; kind = kind; n = n }) }
+{
+    if word % 4 != 1 {
+        return Found {
+            index,
+            kind: Kind::Cons,
+            n: 2,
+            size: 2,
+        };
+    }
+    headed_at(index, word)
+}
+
+/// The same, read off a header.
+fn headed_at(index: u32, word: u64) -> Found
     requires begins { IsFirstWord word }
     requires below { index < MOST_WORDS }
     ensures { (kind : Kind) (n : ℕ) → BeginsWith kind n word → result ≡ found_at (record { index = index; kind = kind; n = n }) }

@@ -64,7 +64,7 @@ module _ (at : Tracing) (words : List ℕ) (pages : List Entry) (t : Traced) (pa
   pass_is = ap (λ (p : Pass). p.generation) can.tells.pass
 
   p : IsPlacedSoFar at.heap at.state
-  p = can.tells.midway.places
+  p = can.tells.places
 
   -- a run begins inside the table
   pub first-inside : (ty : PageType) (h fill first k : ℕ) → entry_at pages page ≡ Used ty h fill first k → first < length at.state.pages
@@ -153,7 +153,8 @@ module _ (at : Tracing) (words : List ℕ) (pages : List Entry) (t : Traced) (pa
   module _ (ty : PageType) (h fill first k : ℕ) (after : List Entry) (is : entry_at pages page ≡ Used ty h fill first k) (same : h ≡ t.pass.generation) where
     pub can-wipe : k ≡ 1 → CanWipe at words page ty fill
     can-wipe one = record {
-      midway = can.tells.midway;
+      places = can.tells.places;
+      headed = can.tells.headed;
       keeps = can.keeps;
       first = first;
       entry = own_entry ty h fill first k is same ∙ ap (λ (n : ℕ). own ty fill first n) one;

@@ -73,7 +73,7 @@ module _ (at : Tracing) (t : Traced) (words : List ℕ) (pages : List Entry) (ca
   page_most : (p : ℕ) → fill_of (swept (entry_at at.state.pages p)) ≤ 512
   page_most p =
       let less = swept_fill (entry_at at.state.pages p) in
-      let most = (its at.heap at.state can.tells.midway.places).most p in
+      let most = (its at.heap at.state can.tells.places).most p in
       omega arith
 
   range_more : (p : ℕ) → filter freed (range_with_len 0 (p + 1)) ≡ filter freed (range_with_len 0 p) ++ cond (freed p) (p ∷ []) []

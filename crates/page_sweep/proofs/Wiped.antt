@@ -89,7 +89,7 @@ module _ (at : Tracing) (old : List ℕ) (page fill : ℕ) (ty : PageType) (can 
 
   pub room : Room
   room =
-      let p = can.midway.places in
+      let p = can.places in
       let inside = used_inside s.pages page ty s.pass.generation fill can.first 1 can.entry in
       let lengths = (its a s p).placing.lengths in
       let bound = p.generation in
@@ -124,7 +124,7 @@ module _ (at : Tracing) (old : List ℕ) (page fill : ℕ) (ty : PageType) (can 
   pub lies-on : (x : ℕ) (o : Object) (i : ℕ) → object_at a.objects x ≡ Some o → is_settled a s x ≡ true → i / 512 ≡ page → new_of s.moves o.place ≤ i →
       i < new_of s.moves o.place + words_of_object o → LiesThere a s x o × IsSingle o ty fill page
   lies-on x o i e lives on from below =
-      let p = can.midway.places in
+      let p = can.places in
       let there = lies-there a s p x o i e lives from below (its_page i on) in
       let here = there.here in
       let on_it = single s.pages o ty s.pass.generation fill can.first i room.most (its_entry i on) (its a s p).most there.placed (omega arith) (omega arith) in
@@ -165,7 +165,7 @@ module _ (at : Tracing) (old : List ℕ) (page fill : ℕ) (ty : PageType) (can 
   passed new index u below lies = (words_of_object o, record { sized = sized; next = next; fits = fits; least = words_least o })
     where
       lying : LyingAt a s index
-      lying = lying-at a s can.midway.places index u.even lies
+      lying = lying-at a s can.places index u.even lies
 
       o : Object
       o = lying.o
@@ -187,15 +187,14 @@ module _ (at : Tracing) (old : List ℕ) (page fill : ℕ) (ty : PageType) (can 
         kind = kind_of o.contents;
         n = payload_of o.contents;
         typed = lies_here.typed;
-        most = payload-most o.contents (can.midway.places.sound.objects lying.name o lying.there).shape;
+        most = payload-most o.contents (can.places.sound.objects lying.name o lying.there).shape;
         headed = λ headed.
-            (let shape = (can.midway.places.sound.objects lying.name o lying.there).shape in
-            let least = words_least o in
-            let stands = can.midway.spelled.slots lying.name o lying.there 0 (Raw (header_of (kind_of o.contents) (payload_of o.contents))) (header_leads o.contents shape headed) in
+            (let least = words_least o in
             let kept = u.keeps.kept lying.name o lying.there lying.is_settled 0 (omega arith) in
             let here = lying.here in
             let first : new_of s.moves o.place + 0 ≡ index = omega arith in
-            ap (λ (i : ℕ). slice_index new i) (sym first) ∙ kept ∙ stands);
+            let none : new_of s.moves o.place + 0 ≡ new_of s.moves o.place = omega arith in
+            ap (λ (i : ℕ). slice_index new i) (sym first) ∙ kept ∙ ap (λ (i : ℕ). slice_index s.words i) none ∙ can.headed lying.name o lying.there lying.is_settled headed);
         size_is = refl;
       }
 
@@ -220,7 +219,7 @@ module _ (at : Tracing) (old : List ℕ) (page fill : ℕ) (ty : PageType) (can 
                 inl (omega arith))
             | inr apart ↦ (let here = lying.here in
                 let least = words_least q in
-                elim (now_apart a s (ms a s can.midway.places) can.midway.places.sound (its a s can.midway.places) x lying.name q o apart e lying.there) [
+                elim (now_apart a s (ms a s can.places) can.places.sound (its a s can.places) x lying.name q o apart e lying.there) [
                   | inl l ↦ absurd (let least' = words_least q in omega arith)
                   | inr l ↦ inr (omega arith)
                 ])
@@ -256,7 +255,7 @@ module _ (at : Tracing) (old : List ℕ) (page fill : ℕ) (ty : PageType) (can 
         (new_of s.moves o.place + words_of_object o ≤ index) ⊎ (index + 2 ≤ new_of s.moves o.place)
     clear_of x o e lives = elim (u.edge x o e lives) [
       | inl before ↦ inl before
-      | inr behind ↦ (let p = can.midway.places in
+      | inr behind ↦ (let p = can.places in
           let even = now_even a s (ms a s p) p.sound (its a s p) x o e in
           let e' = u.even in
           elim (cases_eq (new_of s.moves o.place) index) [

@@ -4,15 +4,16 @@ use Rattle.heap_terms.specs.declared.limits.TheConstants.{OLDEST_GENERATION}
 use Rattle.heap_terms.specs.declared.pages.Entry.{Entry}
 use Rattle.heap_terms.specs.Heap.{entry_at, fill_of}
 use Rattle.heap_terms.specs.Layout.{page_words}
-use Rattle.copy_space.specs.Midway.{Midway}
+use Rattle.copy_space.specs.Midway.{IsPlacedSoFar}
 use Rattle.page_sweep.specs.declared.sweeping.Traced.{Traced}
 use Rattle.page_sweep.specs.Flags.{held_at}
 use Rattle.page_sweep.specs.Held.{is_held, swept_entry}
-use Rattle.page_sweep.specs.Wiping.{Tracing, KeepsSettled, IsClean}
+use Rattle.page_sweep.specs.Wiping.{Tracing, AreHeaded, KeepsSettled, IsClean}
 
--- what is told of tracing is so of the state at its end, which is midway
+-- what is told of tracing is so of the state at its end: objects lie where the moves say, and begin with their headers
 pub record Tells (at : Tracing) (t : Traced) : Type 0 where
-  pub midway : Midway at.heap at.state
+  pub places : IsPlacedSoFar at.heap at.state
+  pub headed : AreHeaded at.heap at.state
   pub marks : t.marks.now ≡ at.state.marks
   pub pins : t.pins.now.listed ≡ at.state.pins
   pub moves : t.moves.now ≡ at.state.moves

@@ -7,11 +7,11 @@ use Rattle.heap_terms.specs.declared.limits.TheConstants.{MOST_ELEMENTS}
 use Rattle.heap_terms.specs.declared.pages.Entry.TheVariants.{Used}
 use Rattle.heap_terms.specs.Heap.{NamedHeap, object_at, entry_at}
 use Rattle.heap_terms.specs.Layout.{page_words, filler_word, page_type_of, header_of, size_of}
-use Rattle.heap_terms.specs.Objects.{Object, words_of_object}
+use Rattle.heap_terms.specs.Objects.{Object, kind_of, payload_of, words_of_object}
 use Rattle.heap_terms.specs.OnPages.{IsOwned}
 use Rattle.copy_space.specs.declared.marks.Mark.{Mark}
 use Rattle.copy_space.specs.declared.marks.Mark.TheVariants as marks
-use Rattle.copy_space.specs.Midway.{Midway}
+use Rattle.copy_space.specs.Midway.{IsPlacedSoFar}
 use Rattle.copy_space.specs.Moved.{new_of}
 use Rattle.copy_space.specs.Settled.{is_settled}
 use Rattle.copy_space.specs.State.{CopyState}
@@ -21,6 +21,11 @@ use Rattle.page_sweep.specs.Swept.{remaining_now}
 pub record Tracing : Type 0 where
   pub heap : NamedHeap
   pub state : CopyState
+
+-- each settled object but a cons begins with its header
+abbrev pub AreHeaded : NamedHeap → CopyState → Type 0
+AreHeaded a s = (name : ℕ) (o : Object) → object_at a.objects name ≡ Some o → is_settled a s name ≡ true → kind_of o.contents ≢ kinds.Cons →
+    slice_index s.words (new_of s.moves o.place) ≡ header_of (kind_of o.contents) (payload_of o.contents)
 
 -- whether a mark tells of an object that is settled and lies where it was
 abbrev pub lies_there : Mark → Bool
@@ -49,7 +54,8 @@ pub record KeepsSettled (at : Tracing) (words : List ℕ) : Type 0 where
 
 -- a page can be wiped: it is of the pass's generation and no part of a longer run
 pub record CanWipe (at : Tracing) (words : List ℕ) (page : ℕ) (ty : PageType) (fill : ℕ) : Type 0 where
-  pub midway : Midway at.heap at.state
+  pub places : IsPlacedSoFar at.heap at.state
+  pub headed : AreHeaded at.heap at.state
   pub keeps : KeepsSettled at words
   pub first : ℕ
   pub entry : entry_at at.state.pages page ≡ Used ty at.state.pass.generation fill first 1

@@ -1,18 +1,29 @@
 -- What an entry of eight bytes says.
-use Rattle.std.specs.Prelude.{ℕ, List, map, length, ◌≤◌, Option, Some, None}
+use Rattle.std.specs.Prelude.{ℕ, List, map, length, ◌≤◌}
 use Rattle.heap_terms.specs.declared.kinds.PageType.{PageType}
+use Rattle.heap_terms.specs.declared.kinds.PageType.TheVariants as types
 use Rattle.heap_terms.specs.declared.pages.Entry.{Entry}
 use Rattle.heap_terms.specs.declared.pages.Entry.TheVariants as entries
 use Rattle.heap_terms.specs.declared.limits.TheConstants.{MOST_PAGES}
+use Rattle.page_table.specs.declared.packed.Holds.{Holds}
+use Rattle.page_table.specs.declared.packed.Holds.TheVariants as holds
 use Rattle.page_table.specs.declared.packed.Packed.{Packed}
 
--- an entry by its type: without one the page is free
-abbrev pub entry_with : Option PageType → ℕ → ℕ → ℕ → ℕ → Entry
-entry_with None generation fill first pages = entries.Free
-entry_with (Some ty) generation fill first pages = entries.Used ty generation fill first pages
+-- what a page of a type holds
+abbrev pub holding : PageType → Holds
+holding types.Cons = holds.Conses
+holding types.Boxed = holds.Boxed
+holding types.Unboxed = holds.Unboxed
+
+-- an entry by what the page holds: where that is nothing the page is free
+abbrev pub entry_with : Holds → ℕ → ℕ → ℕ → ℕ → Entry
+entry_with holds.Nothing generation fill first pages = entries.Free
+entry_with holds.Conses generation fill first pages = entries.Used types.Cons generation fill first pages
+entry_with holds.Boxed generation fill first pages = entries.Used types.Boxed generation fill first pages
+entry_with holds.Unboxed generation fill first pages = entries.Used types.Unboxed generation fill first pages
 
 abbrev pub unpacked : Packed → Entry
-unpacked p = entry_with p.ty p.generation p.fill p.run_first p.run_pages
+unpacked p = entry_with p.holds p.generation p.fill p.run_first p.run_pages
 
 -- the entries of a table
 abbrev pub unpacked_all : List Packed → List Entry

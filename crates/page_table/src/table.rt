@@ -49,6 +49,7 @@ impl PageTable {
     }
 
     /// How many pages there are: from 1 to 1,024, and never another number.
+    #[inline(always)]
     pub fn len(&self) -> u32
         ensures value { result ≡ length self.now }
         ensures least { 1 ≤ result }
@@ -58,6 +59,7 @@ impl PageTable {
     }
 
     /// The entry of a page.
+    #[inline(always)]
     pub fn entry(&self, p: u32) -> Entry
         requires { p < length self.now }
         ensures { result ≡ entry_at self.now p }
@@ -66,6 +68,7 @@ impl PageTable {
     }
 
     /// The index of the first word of the run to which a page in use belongs.
+    #[inline(always)]
     pub fn owner_start(&self, p: u32) -> u32
         requires inside { p < length self.now }
         requires used { is_free (entry_at self.now p) ≡ false }
@@ -96,6 +99,7 @@ impl PageTable {
     }
 
     /// Says how many words of a page in use are used, at most 512.
+    #[inline(always)]
     pub fn set_fill(&mut self, p: u32, fill: u32)
         requires inside { p < length self.old }
         requires used { is_free (entry_at self.old p) ≡ false }
@@ -123,6 +127,7 @@ impl PageTable {
     }
 
     /// Gives a page in use a generation. Its type, fill and run stay.
+    #[inline(always)]
     pub fn set_gen(&mut self, p: u32, generation: u8)
         requires inside { p < length self.old }
         requires used { is_free (entry_at self.old p) ≡ false }

@@ -1,3 +1,4 @@
+pub mod Counting
 pub mod LiveNames
 pub mod Sizes
 pub mod FreeRuns

@@ -1,6 +1,6 @@
 //! The set.
 
-ghost use Rattle.std.specs.Prelude.{◌≡◌, ◌≢◌, ℕ, ◌+◌, ◌-◌, ◌^◌, ◌<◌, [], length, AllPairs, slice_index, IfOk, OnErr, IsOk, nat_eq, not, ◌==◌};
+ghost use Rattle.std.specs.Prelude.{◌≡◌, ◌≢◌, ℕ, ◌+◌, ◌-◌, ◌^◌, ◌<◌, [], length, AllPairs, slice_index, IfOk, OnErr, IsOk, nat_eq, not, ◌==◌, true};
 ghost use Rattle.std.specs.List.{list_any};
 ghost use Rattle.indexmap.specs.IndexSet.{insert_key};
 
@@ -39,14 +39,15 @@ impl PinSet {
     }
 
     /// Puts a start in, last if it is new, and says whether it is. While fewer than `most` starts
-    /// stand in the set it takes no memory; else it is refused only for want of memory, and then
-    /// nothing changes.
+    /// stand in the set, or if it stands there, it takes no memory; else it is refused only for want
+    /// of memory, and then nothing changes.
     pub fn insert(&mut self, start: u32) -> Result<bool, Memory>
         requires { length self.old.listed < 2 ^ 32 - 1 }
         ensures new { IfOk result (λ is_new. is_new ≡ not (list_any (nat_eq start) self.old.listed)) }
         ensures listed { IfOk result (λ _. self.new.listed ≡ insert_key nat_eq self.old.listed start) }
         ensures same { OnErr result (self.new ≡ self.old) }
         ensures room { length self.old.listed < self.old.most → IsOk result }
+        ensures there { list_any (nat_eq start) self.old.listed ≡ true → IsOk result }
         ensures most { self.new.most ≡ self.old.most }
     {
         if self.starts.contains(&start) {
@@ -79,10 +80,12 @@ impl PinSet {
         self.starts.len() as u32
     }
 
-    /// Takes all starts out. The room stays.
+    /// Takes all starts out. The room stays. Where there are none the room is not gone over.
     pub fn clear(&mut self)
         ensures { self.new ≡ record { listed = []; most = self.old.most } }
     {
-        self.starts.clear();
+        if self.starts.len() > 0 {
+            self.starts.clear();
+        }
     }
 }

@@ -13,10 +13,10 @@ use Rattle.machine_laws.specs.Orderly.{IsOrderly}
 use Rattle.replay_core.specs.declared.machine.Machine.TheInside.{Inside as Parts}
 use Rattle.replay_core.specs.MachineSound.{view_of, IsSound}
 use Rattle.replay_core.specs.MachineView.{configuration_of}
-use Rattle.replay_core.specs.Parcels.{AreReady}
-use Rattle.replay_core.specs.Stepping.{HappensInside}
+use Rattle.heap_turns.specs.Parcels.{AreReady}
+use Rattle.heap_turns.specs.Turns.{HappensInside}
 use Rattle.replay_core.proofs.Asking.{Asked}
-use Rattle.replay_core.proofs.Ready.{ready_after}
+use Rattle.heap_turns.proofs.Ready.{ready_after}
 use Rattle.replay_core.proofs.Turning.{seen, inside_done, event_orderly}
 
 -- the parcel that the thread hands in

@@ -28,7 +28,8 @@ use Rattle.machine_laws.proofs.EventFacts.{over_is}
 use Rattle.machine_laws.proofs.FitsKept.{turn_orderly}
 use Rattle.machine_laws.proofs.Steps.{parked_word}
 use Rattle.replay_core.specs.MachineView.{MachineView, program_of, configuration_of}
-use Rattle.replay_core.specs.Stepping.{HappensInside, StepDone, EventDone, TurnDone, IsWaiting, IsWaitingAt}
+use Rattle.heap_turns.specs.Turns.{HappensInside}
+use Rattle.replay_core.specs.Stepping.{StepDone, EventDone, TurnDone, IsWaiting, IsWaitingAt}
 
 -- a machine's view, from its parts
 abbrev pub seen : View → ℕ → List ℕ → List Phase → MachineView

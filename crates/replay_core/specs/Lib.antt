@@ -1,4 +1,3 @@
-pub mod Parcels
 pub mod MachineView
 pub mod MachineSound
 pub mod Stepping

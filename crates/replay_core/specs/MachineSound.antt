@@ -3,7 +3,7 @@ use Rattle.heap_terms.specs.Valid.{IsValid}
 use Rattle.machine_laws.specs.Orderly.{IsOrderly}
 use Rattle.replay_core.specs.declared.machine.Machine.TheInside.{Inside}
 use Rattle.replay_core.specs.MachineView.{MachineView, program_of, configuration_of}
-use Rattle.replay_core.specs.Parcels.{AreReady}
+use Rattle.heap_turns.specs.Parcels.{AreReady}
 
 abbrev pub view_of : Inside → MachineView
 view_of s = record { world = s.world; turn = s.stops.turn; words = s.stops.words; phases = s.phases }

@@ -1,5 +1,5 @@
 -- What one turn did, by its answer.
-use Rattle.std.specs.Prelude.{◌≡◌, ◌≢◌, ◌↔◌, ℕ, List, [], ◌∷◌, length, Bool, true, false}
+use Rattle.std.specs.Prelude.{◌≡◌, ◌≢◌, ◌↔◌, ℕ, List, [], ◌∷◌, length, true, false}
 use Rattle.heap_terms.specs.declared.phases.Phase.{Phase}
 use Rattle.heap_terms.specs.declared.phases.Phase.TheVariants as phases
 use Rattle.heap_terms.specs.declared.steps.ReplayLine.{ReplayLine}
@@ -7,19 +7,12 @@ use Rattle.heap_terms.specs.declared.steps.ReplayLine.TheVariants as replay_line
 use Rattle.heap_terms.specs.declared.steps.StepAnswer.{StepAnswer}
 use Rattle.heap_terms.specs.declared.steps.StepAnswer.TheVariants.{NotYet}
 use Rattle.heap_terms.specs.declared.steps.WordStep.{WordStep}
-use Rattle.heap_terms.specs.MachineTurns.{Configuration, phase_of, stays_inside, answer_in, step_lines, IsTurn, Walks, HasEvent}
+use Rattle.heap_terms.specs.MachineTurns.{Configuration, phase_of, answer_in, step_lines, IsTurn, Walks, HasEvent}
 use Rattle.heap_terms.specs.WordMachine.{has}
-use Rattle.lisp_heap.specs.Events.{Happens}
-use Rattle.lisp_heap.specs.View.{View, heap_of}
 use Rattle.machine_laws.specs.Orderly.{word_in}
 use Rattle.replay_core.specs.MachineView.{MachineView, program_of, configuration_of}
 use Rattle.replay_core.specs.declared.machine.Stepped.{Stepped}
 use Rattle.replay_core.specs.declared.machine.Stepped.TheVariants.{Word, Happened, Waits, Ended}
-
--- one event of thread t happened inside its section, which goes on or is to be left
-pub record HappensInside (t : ℕ) (old new : View) (stays : Bool) : Type 0 where
-  pub happens : Happens t old new
-  pub goes_on : stays ≡ stays_inside (heap_of new) happens.event
 
 -- one word step of thread t was done, with this answer; the World is as it was
 pub record StepDone (t : ℕ) (step : WordStep) (old new : MachineView) (found : StepAnswer) : Type 0 where

@@ -9,7 +9,6 @@ mod runs;
 mod tables;
 #[cfg(test)]
 mod tests;
-mod turns;
 
 pub use heap_terms::{ReplayLine, WordLine};
 pub use machine::{Machine, Stepped};

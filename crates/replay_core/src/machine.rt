@@ -10,14 +10,14 @@ ghost use Rattle.lisp_heap.specs.View.{View};
 ghost use Rattle.machine_laws.specs.Laws.{IsAlone};
 ghost use Rattle.machine_laws.specs.Orderly.{IsOrderly};
 ghost use Rattle.replay_core.specs.MachineView.{program_of, configuration_of};
-ghost use Rattle.replay_core.specs.Parcels.{AreReady};
+ghost use Rattle.heap_turns.specs.Parcels.{AreReady};
 ghost use Rattle.replay_core.specs.Stepping.{AllEnded, EventDone, IsDone, IsWaiting, StepDone, Tells, TurnDone, lines_of};
 ghost use Rattle.replay_core.specs.declared.machine.Stepped.TheVariants as stepped;
 
 use crate::tables::{after_step, has_gone, release_from, task_for};
-use crate::turns::event;
 use heap_terms::{Memory, Phase, Program, Seq, StepAnswer, Task, WordLine, WordStep};
-use lisp_heap::{CollectFault, Parcel, World};
+use heap_turns::{collect_alone, event};
+use lisp_heap::{Parcel, World, put_away_all};
 use pseudo_atomic::{StopState, word_step};
 use std::alloc::Global;
 use std::marker::Model;
@@ -273,15 +273,10 @@ impl Machine {
         ensures ok { OnOk result (EventDone t self.old self.new) }
         ensures err { OnErr result (self.new ≡ self.old) }
     {
-        match self.world.collect(t, self.parcels.as_mut_slice()) {
-            Ok(()) => {
-                let threads = self.world.threads();
-                self.phases.set(t as usize, release_from(threads, t, 0));
-                Ok(())
-            }
-            Err(CollectFault::Memory) => Err(Memory),
-            Err(CollectFault::Busy(_)) => unreachable!(),
-        }
+        collect_alone(&mut self.world, t, self.parcels.as_mut_slice())?;
+        let threads = self.world.threads();
+        self.phases.set(t as usize, release_from(threads, t, 0));
+        Ok(())
     }
 }
 
@@ -308,12 +303,4 @@ fn told(thread: u32, step: WordStep, answer: StepAnswer) -> Stepped
             answer,
         }),
     }
-}
-
-/// Puts all parcels away.
-fn put_away_all(mut parcels: Vec<Parcel>) {
-    while let Some(parcel) = parcels.pop() {
-        let _regions = parcel.put_away();
-    }
-    parcels.destroy_empty();
 }

@@ -1,5 +1,5 @@
 -- One object is scanned: its first word tells its fields.
-use Rattle.std.proofs.Common.{◌≡◌, ◌≢◌, ℕ, ℤ, pos, negsuc, ◌+◌, ◌%◌, ◌<◌, ◌≤◌, ◌⊎◌, List, length, Option, Some, None, IsSome, inl, inr, refl, sym, ◌∙◌, ap, subst, arith}
+use Rattle.std.proofs.Common.{◌≡◌, ◌≢◌, ℕ, ℤ, pos, negsuc, ◌+◌, ◌%◌, ◌<◌, ◌≤◌, ◌⊎◌, List, length, Option, Some, None, IsSome, true, inl, inr, refl, sym, ◌∙◌, ap, subst, arith}
 use Rattle.std.specs.Prelude.{slice_index}
 use Rattle.heap_terms.specs.declared.cells.Value.{Value}
 use Rattle.heap_terms.specs.declared.cells.Value.TheVariants.{Fix, Nil, Unbound, Ref}
@@ -14,15 +14,16 @@ use Rattle.heap_terms.specs.Spelling.{word_of, word_of_object}
 use Rattle.heap_terms.specs.Valid.{IsFixnum}
 use Rattle.lisp_words.specs.Tagged.{IsHeader}
 use Rattle.pass_laws.proofs.Sizes.{words_least}
+use Rattle.copy_space.specs.Frames.{IsScanned}
 use Rattle.copy_space.specs.Midway.{Midway}
 use Rattle.copy_space.specs.Moved.{new_of, objects_now}
-use Rattle.copy_space.specs.Settled.{IsEitherWord}
+use Rattle.copy_space.specs.Settled.{is_settled, IsEitherWord}
 use Rattle.copy_space.specs.State.{CopyState}
 use Rattle.copy_space.proofs.Names.{now-there}
 use Rattle.copy_space.proofs.Places.{now_inside}
 use Rattle.copy_space.proofs.Referents.{ms, its}
 use Rattle.copy_space.proofs.Shapes.{header_leads, payload-most, slot-below}
-use Rattle.scavenge.specs.Fields.{IsFieldAt, CanScanFields, AreNew, CanScanObject, CanScanHeaded, IsObjectScanned, fields_behind}
+use Rattle.scavenge.specs.Fields.{IsFieldAt, CanScanFields, AreNew, CanScanObject, CanScanHeaded, fields_behind}
 use Rattle.scavenge.specs.Scanning.{Scans}
 use Rattle.scavenge.proofs.Frames.{field-stays, long-stays, new-on}
 use Rattle.scavenge.proofs.Shapes.{field_living, field_is_behind, behind_is_field, cons_is_field}
@@ -146,9 +147,13 @@ fields-behind a s index word count can is counted =
           record { name = at.name; o = at.o; there = at.there; settled = at.settled; i = 1 + k; v = field.0; field = field.1; here = omega arith });
     }
 
+-- the settled object that lay at an index is scanned
+abbrev pub IsScannedAt : NamedHeap → CopyState → CopyState → ℕ → Type 0
+IsScannedAt a s t index = (name : ℕ) (o : Object) → object_at a.objects name ≡ Some o → is_settled a s name ≡ true → new_of s.moves o.place ≡ index → IsScanned a t o
+
 -- where they are new, the object is scanned
 pub headed-scanned : (a : NamedHeap) (s t : CopyState) (index word count : ℕ) → CanScanHeaded a s index → word ≡ slice_index s.words index →
-    ((kind : Kind) (n : ℕ) → IsHeader word kind n → count ≡ fields_behind kind n) → AreNew a s t (index + 1) count → IsObjectScanned a s t index
+    ((kind : Kind) (n : ℕ) → IsHeader word kind n → count ≡ fields_behind kind n) → AreNew a s t (index + 1) count → IsScannedAt a s t index
 headed-scanned a s t index word count can is counted new = λ name o there settled here i v f.
     (let one : slice_index s.words (new_of s.moves o.place) % 4 ≡ 1 = ap (λ (i : ℕ). slice_index s.words i % 4) here ∙ can.header in
     let headed = headed-by_word a s can.midway name o there one in
@@ -199,7 +204,7 @@ cons-second a s t index can other h =
     }
 
 pub cons-scanned : (a : NamedHeap) (s t u : CopyState) (index : ℕ) → CanScanObject a s index → slice_index s.words index % 4 ≢ 1 → Scans a s t → Scans a t u →
-    AreNew a s t index 1 → AreNew a t u (index + 1) 1 → IsObjectScanned a s u index
+    AreNew a s t index 1 → AreNew a t u (index + 1) 1 → IsScannedAt a s u index
 cons-scanned a s t u index can other h k first second = λ name o there settled here i v f.
     (let both = new-on a s t u index 1 1 h k first second in
     let cons = cons-by_word a s can.midway name o there (λ one. other (ap (λ (i : ℕ). slice_index s.words i % 4) (sym here) ∙ one)) in

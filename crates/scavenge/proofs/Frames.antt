@@ -66,7 +66,7 @@ new-on a s t u from n m h k first second = λ name o e settled i v f low high.
     ])
 
 -- the same copier
-notes-on : (x y z : PassNotes) → SameButMoves x y → SameButMoves y z → SameButMoves x z
+pub notes-on : (x y z : PassNotes) → SameButMoves x y → SameButMoves y z → SameButMoves x z
 notes-on x y z h k = record {
   rest = record {
     generation = k.rest.generation ∙ h.rest.generation;
@@ -90,14 +90,17 @@ same-on x y z h k = record {
   same_notes = k.same_notes ∙ h.same_notes;
 }
 
+pub notes-same : (x : PassNotes) → SameButMoves x x
+notes-same x = record {
+  rest = record { generation = refl; target = refl; pins = refl; freed = refl; dead = refl; kept = refl };
+  culls = refl;
+  breaks = refl;
+  queued = refl;
+}
+
 pub same-self : (x : Copier) → IsSameCopier x x
 same-self x = record {
-  notes = record {
-    rest = record { generation = refl; target = refl; pins = refl; freed = refl; dead = refl; kept = refl };
-    culls = refl;
-    breaks = refl;
-    queued = refl;
-  };
+  notes = notes-same x.notes.now;
   same_space = refl;
   same_pages = refl;
   same_marks = refl;

@@ -2,9 +2,12 @@ pub mod Shapes
 pub mod Frames
 pub mod OneField
 pub mod FirstWord
+pub mod NotedStarts
+pub mod NotedObjects
 pub mod QueueLaws
 pub mod Edges
 pub mod OlderPieces
 pub mod OlderPages
 pub mod EmptyHeap
 pub mod Carried
+pub mod ClearPages

@@ -16,22 +16,22 @@ use Rattle.heap_terms.specs.Placement.{scratch}
 use Rattle.heap_terms.specs.Regions.{is_small}
 use Rattle.object_walk.proofs.Places.{begins_below, ends_before, laid_fill}
 use Rattle.pass_laws.proofs.Sizes.{large_least, large_needs, words_least}
-use Rattle.copy_space.specs.Frames.{IsScanned}
 use Rattle.copy_space.specs.Midway.{Midway}
 use Rattle.copy_space.specs.Pages.{is_page_of}
 use Rattle.copy_space.specs.State.{CopyState}
-use Rattle.copy_space.proofs.FrameLaws.{scanned-stays}
 use Rattle.copy_space.proofs.Referents.{its}
-use Rattle.scavenge.specs.Fields.{fields_behind}
+use Rattle.scavenge.specs.Fields.{fields_behind, is_weak_kind}
 use Rattle.scavenge.specs.Older.{may_have_fields, has_roots, root_words, IsEdge, CanScanPiece, AreObjectsScanned, IsPieceScanned, CanScanPage}
+use Rattle.scavenge.specs.Noting.{HasAll, IsDone}
 use Rattle.scavenge.specs.Scanning.{Scans, OthersScanned}
+use Rattle.scavenge.proofs.NotedStarts.{done-later, kind-weak}
 use Rattle.scavenge.proofs.OlderPieces.{older, other-on_page}
 use Rattle.scavenge.proofs.Shapes.{field_is_behind}
 
 -- what a page is on which roots may begin
-record IsRooted (e : Entry) (page g : ℕ) : Type 0 where
-  other : is_page_of e g ≡ false
-  laid : laid_words page e ≡ fill_of e
+pub record IsRooted (e : Entry) (page g : ℕ) : Type 0 where
+  pub other : is_page_of e g ≡ false
+  pub laid : laid_words page e ≡ fill_of e
 
 is_rooted : (e : Entry) (page g : ℕ) → has_roots e page g ≡ true → IsRooted e page g
 is_rooted Free page g rooted_so = absurd (false≢true rooted_so)
@@ -47,9 +47,9 @@ is_rooted (Used ty k fill first n) page g rooted_so =
     not_true false e = refl
 
 -- where there are words with roots, they are all words of such a page
-record HasRoots (e : Entry) (page g words : ℕ) : Type 0 where
-  rooted : IsRooted e page g
-  all : words ≡ fill_of e
+pub record HasRoots (e : Entry) (page g words : ℕ) : Type 0 where
+  pub rooted : IsRooted e page g
+  pub all : words ≡ fill_of e
 
 with_roots : (e : Entry) (page g words : ℕ) → words ≡ root_words e page g → 0 < words → HasRoots e page g words
 with_roots e page g words is some = elim (cases_Bool (has_roots e page g)) [
@@ -58,7 +58,7 @@ with_roots e page g words is some = elim (cases_Bool (has_roots e page g)) [
 ]
 
 module _ (a : NamedHeap) (s : CopyState) (page words : ℕ) (can : CanScanPage a s page words) where
-  rooted_page : 0 < words → HasRoots (entry_at a.pages page) page s.pass.generation words
+  pub rooted_page : 0 < words → HasRoots (entry_at a.pages page) page s.pass.generation words
   rooted_page some = with_roots (entry_at a.pages page) page s.pass.generation words can.words_are some
 
   pub words-most : words ≤ 512
@@ -91,8 +91,9 @@ module _ (a : NamedHeap) (s : CopyState) (page words : ℕ) (can : CanScanPage a
           other = subst (λ (g : ℕ). is_page_of (entry_at a.pages page) g ≡ false) (sym (ap (λ p. p.generation) h.follows.grows.pass)) page_is.rooted.other;
         }
 
-    pub pieces-on : (u : CopyState) (next : ℕ) → Scans a t u → AreObjectsScanned a t (512 * page) index → IsPieceScanned a u index next → AreObjectsScanned a u (512 * page) next
-    pieces-on u next k before piece = λ name o there from below.
+    pub pieces-on : (u : CopyState) (old new : List ℕ) (next : ℕ) → Scans a t u → HasAll old new → AreObjectsScanned a t old (512 * page) index → IsPieceScanned a u new index next →
+        AreObjectsScanned a u new (512 * page) next
+    pieces-on u old new next k all before piece = λ name o there from below.
         (elim (cases_lt o.place index) [
           | inr here ↦ piece.scanned name o there here below
           | inl lower ↦ (let page_is = rooted_page (omega (arith, low, high)) in
@@ -101,7 +102,7 @@ module _ (a : NamedHeap) (s : CopyState) (page words : ℕ) (can : CanScanPage a
               let other : is_page_of (entry_at a.pages page) t.pass.generation ≡ false =
               subst (λ (g : ℕ). is_page_of (entry_at a.pages page) g ≡ false) (sym (ap (λ p. p.generation) h.follows.grows.pass)) page_is.rooted.other in
               let it = older a t h.midway name o there (other-on_page a t h.midway page other name o there on) in
-              scanned-stays a t u k.follows name o there it.settled (before name o there from lower))
+              done-later a t u old new k.follows all name o there it.settled (before name o there from lower))
         ])
 
 -- the pages that a pass has taken have no older roots, nor had they when they were free
@@ -123,12 +124,12 @@ same-roots a s h page g = elim ((its a s h.places).placing.fresh page) [
 ]
 
 -- how an object begins on its page
-record BeginsOn (e : Entry) (o : Object) : Type 0 where
-  ty : PageType
-  fill : ℕ
-  n : ℕ
-  entry : e ≡ Used ty o.generation fill (o.place / 512) n
-  type : ty ≡ page_type_of (kind_of o.contents)
+pub record BeginsOn (e : Entry) (o : Object) : Type 0 where
+  pub ty : PageType
+  pub fill : ℕ
+  pub n : ℕ
+  pub entry : e ≡ Used ty o.generation fill (o.place / 512) n
+  pub type : ty ≡ page_type_of (kind_of o.contents)
 
 on_page : (o : Object) (e : Entry) → IsOnPage o e → BeginsOn e o
 on_page o Free h = absurd h
@@ -140,7 +141,7 @@ on_run o i Free h = absurd h
 on_run o i (Used ty g fill first n) h =
     record { ty = ty; fill = fill; n = n; type = h.0; entry = ap (λ (k : ℕ). Used ty k fill first n) h.1 ∙ ap (λ (k : ℕ). Used ty o.generation fill k n) h.2 }
 
-begins_on : (pages : List Entry) (o : Object) → IsPlaced pages o → BeginsOn (entry_at pages (o.place / 512)) o
+pub begins_on : (pages : List Entry) (o : Object) → IsPlaced pages o → BeginsOn (entry_at pages (o.place / 512)) o
 begins_on pages o h = elim (cases_Bool (is_small (words_of_object o))) [
   | inl small ↦ on_page o (entry_at pages (o.place / 512)) (h.small small)
   | inr large ↦ (let least = large_least (words_of_object o) large in
@@ -162,22 +163,25 @@ no_fields o e = go (kind_of o.contents) e
     go kinds.Weak f = absurd (false≢true (sym f))
     go kinds.Table f = absurd (false≢true (sym f))
 
-words_scanned : (a : NamedHeap) (s : CopyState) (o : Object) → kind_of o.contents ≡ kinds.Words → IsScanned a s o
-words_scanned a s o words i v f =
-    let headed : kind_of o.contents ≢ kinds.Cons = λ cons. (let never : kinds.Words ≡ kinds.Cons = sym words ∙ cons in cc) in
-    let at = field_is_behind o.contents headed i v f in
-    let from = at.from in
-    let below : i < 1 + 0 = subst (λ (kind : Kind). i < 1 + fields_behind kind (payload_of o.contents)) words at.below in
-    absurd (omega arith)
+words_scanned : (a : NamedHeap) (s : CopyState) (listed : List ℕ) (o : Object) → kind_of o.contents ≡ kinds.Words → IsDone a s listed o
+words_scanned a s listed o words = record {
+  scanned = λ i v f.
+      (let headed : kind_of o.contents ≢ kinds.Cons = λ cons. (let never : kinds.Words ≡ kinds.Cons = sym words ∙ cons in cc) in
+      let at = field_is_behind o.contents headed i v f in
+      let from = at.from in
+      let below : i < 1 + 0 = subst (λ (kind : Kind). i < 1 + fields_behind kind (payload_of o.contents)) words at.below in
+      absurd (omega arith));
+  noted = λ weak. absurd (false≢true (sym (ap is_weak_kind words) ∙ kind-weak o.contents ∙ weak));
+}
 
 -- an object of another generation begins below the words of its page that are walked, or it has no fields
-pub below-roots : (a : NamedHeap) (s t : CopyState) → Midway a s → (name : ℕ) (o : Object) → object_at a.objects name ≡ Some o → o.generation ≢ s.pass.generation →
-    512 * (o.place / 512) + root_words (entry_at a.pages (o.place / 512)) (o.place / 512) s.pass.generation ≤ o.place → IsScanned a t o
-below-roots a s t h name o there apart past =
+pub below-roots : (a : NamedHeap) (s t : CopyState) (listed : List ℕ) → Midway a s → (name : ℕ) (o : Object) → object_at a.objects name ≡ Some o → o.generation ≢ s.pass.generation →
+    512 * (o.place / 512) + root_words (entry_at a.pages (o.place / 512)) (o.place / 512) s.pass.generation ≤ o.place → IsDone a t listed o
+below-roots a s t listed h name o there apart past =
     let object = h.places.sound.objects name o there in
     let b = begins_on a.pages o object.placed in
     elim (cases_Bool (may_have_fields b.ty)) [
-      | inr none ↦ words_scanned a t o (no_fields o (ap may_have_fields (sym b.type) ∙ none))
+      | inr none ↦ words_scanned a t listed o (no_fields o (ap may_have_fields (sym b.type) ∙ none))
       | inl some ↦ (let g = s.pass.generation in
           let bound = object.generation in
           let own : not (o.generation == g) ≡ true = ap not (ne_eqb o.generation g apart) in
@@ -205,27 +209,27 @@ module _ (a : NamedHeap) (s t : CopyState) (page words : ℕ) (h : Scans a s t) 
   pub page-can : page < length a.pages → CanScanPage a t page words
   page-can inside = record { midway = h.midway; inside = inside; words_are = words_before }
 
-  pub page-on : (u : CopyState) → Scans a t u →
-      ((name : ℕ) (o : Object) → object_at a.objects name ≡ Some o → o.generation ≢ s.pass.generation → o.place < 512 * page → IsScanned a t o) →
-      AreObjectsScanned a u (512 * page) (512 * page + words) →
-      (name : ℕ) (o : Object) → object_at a.objects name ≡ Some o → o.generation ≢ s.pass.generation → o.place < 512 * (page + 1) → IsScanned a u o
-  page-on u k before here name o there apart below =
+  pub page-on : (u : CopyState) (old new : List ℕ) → Scans a t u → HasAll old new →
+      ((name : ℕ) (o : Object) → object_at a.objects name ≡ Some o → o.generation ≢ s.pass.generation → o.place < 512 * page → IsDone a t old o) →
+      AreObjectsScanned a u new (512 * page) (512 * page + words) →
+      (name : ℕ) (o : Object) → object_at a.objects name ≡ Some o → o.generation ≢ s.pass.generation → o.place < 512 * (page + 1) → IsDone a u new o
+  page-on u old new k all before here name o there apart below =
       let apart_t : o.generation ≢ t.pass.generation = λ same. apart (same ∙ generation_t) in
       elim (cases_lt o.place (512 * page)) [
-        | inl lower ↦ scanned-stays a t u k.follows name o there (older a t h.midway name o there apart_t).settled (before name o there apart lower)
+        | inl lower ↦ done-later a t u old new k.follows all name o there (older a t h.midway name o there apart_t).settled (before name o there apart lower)
         | inr from ↦ elim (cases_lt o.place (512 * page + words)) [
           | inl walked ↦ here name o there from walked
           | inr past ↦ (let on : o.place / 512 ≡ page = omega arith in
               let words_is : words ≡ root_words (entry_at a.pages (o.place / 512)) (o.place / 512) t.pass.generation =
               words_before ∙ ap (λ (p : ℕ). root_words (entry_at a.pages p) p t.pass.generation) (sym on) in
-              below-roots a t u h.midway name o there apart_t (omega (arith, words_is, on, past)))
+              below-roots a t u new h.midway name o there apart_t (omega (arith, words_is, on, past)))
         ]
       ]
 
 -- all pages
-pub all-others : (a : NamedHeap) (s t : CopyState) (page : ℕ) → Scans a s t → length a.pages ≤ page →
-    ((name : ℕ) (o : Object) → object_at a.objects name ≡ Some o → o.generation ≢ s.pass.generation → o.place < 512 * page → IsScanned a t o) → OthersScanned a t
-all-others a s t page h all scanned = λ name o there apart.
+pub all-others : (a : NamedHeap) (s t : CopyState) (listed : List ℕ) (page : ℕ) → Scans a s t → length a.pages ≤ page →
+    ((name : ℕ) (o : Object) → object_at a.objects name ≡ Some o → o.generation ≢ s.pass.generation → o.place < 512 * page → IsDone a t listed o) → OthersScanned a t listed
+all-others a s t listed page h all scanned = λ name o there apart.
     (let inside = (h.midway.places.sound.objects name o there).placed.inside in
     let least = words_least o in
     scanned name o there (λ same. apart (same ∙ sym (ap (λ p. p.generation) h.follows.grows.pass))) (omega arith))

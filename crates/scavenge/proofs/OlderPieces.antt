@@ -1,5 +1,5 @@
 -- One piece of a page of another generation: what its first word tells, and that it is scanned.
-use Rattle.std.proofs.Common.{◌≡◌, ◌≢◌, ℕ, ◌+◌, ◌-◌, ◌*◌, ◌/◌, ◌%◌, ◌<◌, ◌≤◌, inl, inr, length, Some, true, false, refl, sym, ◌∙◌, ap, subst, arith}
+use Rattle.std.proofs.Common.{◌≡◌, ◌≢◌, ℕ, ◌+◌, ◌-◌, ◌*◌, ◌/◌, ◌%◌, ◌<◌, ◌≤◌, inl, inr, List, length, Some, true, false, refl, sym, ◌∙◌, ap, subst, arith}
 use Rattle.std.proofs.lemmas.Bool.{cases_lt, ne_eqb, false≢true}
 use Rattle.std.proofs.lemmas.List.{get_or_past}
 use Rattle.std.specs.Prelude.{slice_index, ◌==◌}
@@ -99,8 +99,8 @@ module _ (a : NamedHeap) (s : CopyState) (index first : ℕ) (can : CanScanPiece
         | inr headed ↦ no_filler (kind_of o.contents) (payload_of o.contents) (sym (header-word a s can.midway name o there headed).word_is ∙ word ∙ filler)
       ]
 
-  pub fillers-scanned : first ≡ filler_word → IsPieceScanned a s index (index + 2)
-  fillers-scanned filler =
+  pub fillers-scanned : (listed : List ℕ) → first ≡ filler_word → IsPieceScanned a s listed index (index + 2)
+  fillers-scanned listed filler =
       let sound = can.midway.places.sound in
       let none = no_object filler in
       record {
@@ -157,9 +157,9 @@ module _ (a : NamedHeap) (s : CopyState) (index first : ℕ) (can : CanScanPiece
       let here = (begins k.name k.o k.there k.here).here in
       omega arith
 
-  pub object-scanned : (t : CopyState) (size : ℕ) (other : first ≢ filler_word) → size ≡ words_of_object (object-here other).o → IsObjectScanned a s t index →
-      IsPieceScanned a t index (index + size)
-  object-scanned t size other size_is one =
+  pub object-scanned : (t : CopyState) (listed : List ℕ) (size : ℕ) (other : first ≢ filler_word) → size ≡ words_of_object (object-here other).o → IsObjectScanned a s t listed index →
+      IsPieceScanned a t listed index (index + size)
+  object-scanned t listed size other size_is one =
       let sound = can.midway.places.sound in
       let k = object-here other in
       let least = words_least k.o in

@@ -18,13 +18,14 @@ use Rattle.copy_space.specs.Midway.{Midway}
 use Rattle.copy_space.specs.Moved.{new_of, has_move, mark_for}
 use Rattle.copy_space.specs.Settled.{is_settled}
 use Rattle.copy_space.specs.State.{CopyState}
-use Rattle.copy_space.proofs.FrameLaws.{scanned-stays}
 use Rattle.copy_space.proofs.Listed.{IsMoveNow, move-is}
 use Rattle.copy_space.proofs.Names.{same_name, new_of-none}
 use Rattle.copy_space.proofs.Referents.{mark_is, pinned_unmoved, settles-not}
 use Rattle.scavenge.specs.declared.queue.Scanned.{Scanned}
 use Rattle.scavenge.specs.Fields.{CanScanObject, IsObjectScanned}
+use Rattle.scavenge.specs.Noting.{HasAll}
 use Rattle.scavenge.specs.Scanning.{AreScanned, IsAllScanned, AllOfGenerationScanned}
+use Rattle.scavenge.proofs.NotedStarts.{done-later}
 
 -- an object of the queue: it is settled, and this is where it is
 pub record IsQueued (a : NamedHeap) (s : CopyState) (name : ℕ) (o : Object) (index : ℕ) : Type 0 where
@@ -74,7 +75,7 @@ get-front [] more k m l e = absurd (omega (arith, l))
 get-front (x ∷ xs) more zero m l e = e
 get-front (x ∷ xs) more (suc k) m l e = get-front xs more k m (omega (arith, l)) e
 
-module _ (a : NamedHeap) (s t : CopyState) (done : Scanned) (h : Midway a s) (f : Follows a s t) (d : AreScanned a s done) where
+module _ (a : NamedHeap) (s t : CopyState) (noted more : List ℕ) (done : Scanned) (h : Midway a s) (f : Follows a s t) (all : HasAll noted more) (d : AreScanned a s noted done) where
   pins_same : t.pins ≡ s.pins
   pins_same = f.grows.pins
 
@@ -85,26 +86,26 @@ module _ (a : NamedHeap) (s t : CopyState) (done : Scanned) (h : Midway a s) (f 
   at_front k m l at = get-front s.moves f.grows.more k m l (ap (λ (ms : List Move). slice_get ms k) (sym f.grows.moves) ∙ at)
 
   -- what was scanned stays scanned, also by the steps of other layers
-  pub scanned-on : AreScanned a t done
+  pub scanned-on : AreScanned a t more done
   scanned-on = record {
     pins_most = (let most = d.pins_most in let same = ap length pins_same in omega arith);
-    moves_most = (let most = d.moves_most in let more = more_moves in omega arith);
+    moves_most = (let most = d.moves_most in let longer = more_moves in omega arith);
     pins = λ k name o l there here.
         (let most = d.pins_most in
         let here_before : o.place ≡ slice_index s.pins k = here ∙ ap (λ (ps : List ℕ). slice_index ps k) pins_same in
         let queued = pinned a s h k name o (omega arith) there here_before in
-        scanned-stays a s t f name o there queued.settled (d.pins k name o l there here_before));
+        done-later a s t noted more f all name o there queued.settled (d.pins k name o l there here_before));
     moves = λ k name o m l at there of_it old.
         (let most = d.moves_most in
         let before = at_front k m (omega arith) at in
         let queued = moved a s h k name o m before there old in
         let of_it_before : o.generation ≡ s.pass.generation = of_it ∙ ap (λ p. p.generation) f.grows.pass in
-        scanned-stays a s t f name o there queued.settled (d.moves k name o m l before there of_it_before old));
+        done-later a s t noted more f all name o there queued.settled (d.moves k name o m l before there of_it_before old));
   }
 
   -- one pin more
   pub pin-scanned : (next : Scanned) → next.pins ≡ done.pins + 1 → next.moves ≡ done.moves → done.pins < length s.pins →
-      IsObjectScanned a s t (slice_index s.pins done.pins) → AreScanned a t next
+      IsObjectScanned a s t more (slice_index s.pins done.pins) → AreScanned a t more next
   pin-scanned next pins_are moves_are inside one =
       let on = scanned-on in
       record {
@@ -122,12 +123,12 @@ module _ (a : NamedHeap) (s t : CopyState) (done : Scanned) (h : Midway a s) (f 
 
   -- one move more
   pub move-scanned : (next : Scanned) (d : Move) → next.pins ≡ done.pins → next.moves ≡ done.moves + 1 → done.moves < length s.moves →
-      IsObjectScanned a s t (get_or s.moves done.moves d).new → AreScanned a t next
+      IsObjectScanned a s t more (get_or s.moves done.moves d).new → AreScanned a t more next
   move-scanned next d pins_are moves_are inside one =
       let on = scanned-on in
       record {
         pins_most = (let most = on.pins_most in omega arith);
-        moves_most = (let more = more_moves in omega arith);
+        moves_most = (let longer = more_moves in omega arith);
         pins = λ k name o l there here. on.pins k name o (omega arith) there here;
         moves = λ k name o m l at there of_it old. (elim (cases_lt k done.moves) [
           | inl below ↦ on.moves k name o m below at there of_it old
@@ -150,8 +151,8 @@ moves-most a s h =
     omega arith
 
 -- when all of the queue is scanned, so is all that is settled of the generation
-pub all-scanned : (a : NamedHeap) (s : CopyState) (done : Scanned) → Midway a s → AreScanned a s done → IsAllScanned s done → AllOfGenerationScanned a s
-all-scanned a s done h d whole = λ name o there of_it settled.
+pub all-scanned : (a : NamedHeap) (s : CopyState) (listed : List ℕ) (done : Scanned) → Midway a s → AreScanned a s listed done → IsAllScanned s done → AllOfGenerationScanned a s listed
+all-scanned a s listed done h d whole = λ name o there of_it settled.
     (let same : (o.generation == s.pass.generation) ≡ true = eq-eqb o.generation s.pass.generation of_it in
     let told : (not (o.generation == s.pass.generation) || is_set (mark_at s.marks o.place)) ≡ true = sym (settles-not a s h.places name o there) ∙ settled in
     let marked : is_set (mark_at s.marks o.place) ≡ true = rw same at told in

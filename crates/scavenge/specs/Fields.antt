@@ -1,5 +1,5 @@
 -- Where fields and objects stand in the middle of a pass, and what it is to scan one field, a stretch of fields, an object.
-use Rattle.std.specs.Prelude.{◌≡◌, ℕ, ◌+◌, ◌%◌, ◌<◌, ◌≤◌, Some, true, length, slice_index}
+use Rattle.std.specs.Prelude.{◌≡◌, ℕ, ◌+◌, ◌%◌, ◌<◌, ◌≤◌, List, Some, Bool, true, false, length, slice_index}
 use Rattle.heap_terms.specs.declared.cells.Value.{Value}
 use Rattle.heap_terms.specs.declared.kinds.Kind.{Kind}
 use Rattle.heap_terms.specs.declared.kinds.Kind.TheVariants as kinds
@@ -7,12 +7,12 @@ use Rattle.heap_terms.specs.Heap.{NamedHeap, object_at}
 use Rattle.heap_terms.specs.Objects.{Object}
 use Rattle.heap_terms.specs.Slots.{Val, slot_at}
 use Rattle.copy_space.specs.declared.copier.Copier.{Copier}
-use Rattle.copy_space.specs.Frames.{IsScanned}
 use Rattle.copy_space.specs.Midway.{Midway}
 use Rattle.copy_space.specs.Moved.{new_of}
 use Rattle.copy_space.specs.Notes.{SameButMoves}
 use Rattle.copy_space.specs.Settled.{is_settled, IsNewWord}
 use Rattle.copy_space.specs.State.{CopyState}
+use Rattle.scavenge.specs.Noting.{IsDone}
 
 -- the word at an index is slot i of a settled object, a field that holds the value v
 pub record IsFieldAt (a : NamedHeap) (s : CopyState) (index : ℕ) : Type 0 where
@@ -49,10 +49,10 @@ pub record CanScanObject (a : NamedHeap) (s : CopyState) (index : ℕ) : Type 0 
   pub midway : Midway a s
   pub at : IsObjectAt a s index
 
--- the settled object that lay at an index is scanned
-abbrev pub IsObjectScanned : NamedHeap → CopyState → CopyState → ℕ → Type 0
-IsObjectScanned a s t index = (name : ℕ) (o : Object) → object_at a.objects name ≡ Some o → is_settled a s name ≡ true → new_of s.moves o.place ≡ index →
-    IsScanned a t o
+-- the settled object that lay at an index is scanned, and noted if it is a weak pointer or a table
+abbrev pub IsObjectScanned : NamedHeap → CopyState → CopyState → List ℕ → ℕ → Type 0
+IsObjectScanned a s t listed index = (name : ℕ) (o : Object) → object_at a.objects name ≡ Some o → is_settled a s name ≡ true → new_of s.moves o.place ≡ index →
+    IsDone a t listed o
 
 -- how many fields stand behind a header: those of a vector, an instance or a closure; the sides of a table and what a weak
 -- pointer points to are none
@@ -64,6 +64,16 @@ fields_behind kinds.Closure n = n
 fields_behind kinds.Words n = 0
 fields_behind kinds.Weak n = 0
 fields_behind kinds.Table n = 0
+
+-- whether the objects of a kind are weak pointers or tables
+abbrev pub is_weak_kind : Kind → Bool
+is_weak_kind kinds.Cons = false
+is_weak_kind kinds.Vector = false
+is_weak_kind kinds.Instance = false
+is_weak_kind kinds.Closure = false
+is_weak_kind kinds.Words = false
+is_weak_kind kinds.Weak = true
+is_weak_kind kinds.Table = true
 
 -- the first word of the object is a header: it alone is 1 modulo 4
 pub record CanScanHeaded (a : NamedHeap) (s : CopyState) (index : ℕ) : Type 0 where

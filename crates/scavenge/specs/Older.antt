@@ -1,5 +1,5 @@
 -- The pages of other generations than the one that a pass collects, and how far a walk over one of them has come.
-use Rattle.std.specs.Prelude.{◌≡◌, ℕ, ◌+◌, ◌*◌, ◌%◌, ◌<◌, ◌≤◌, ◌==◌, ◌&&◌, not, length, Some, Bool, true, false, if◌then◌else◌}
+use Rattle.std.specs.Prelude.{◌≡◌, ℕ, ◌+◌, ◌*◌, ◌%◌, ◌<◌, ◌≤◌, ◌==◌, ◌&&◌, not, List, length, Some, Bool, true, false, if◌then◌else◌}
 use Rattle.heap_terms.specs.declared.kinds.Kind.{Kind}
 use Rattle.heap_terms.specs.declared.kinds.PageType.{PageType}
 use Rattle.heap_terms.specs.declared.kinds.PageType.TheVariants as types
@@ -11,10 +11,10 @@ use Rattle.heap_terms.specs.Layout.{page_words}
 use Rattle.heap_terms.specs.Objects.{Object, words_of_object}
 use Rattle.heap_terms.specs.Placement.{scratch}
 use Rattle.lisp_words.specs.Tagged.{IsHeader}
-use Rattle.copy_space.specs.Frames.{IsScanned}
 use Rattle.copy_space.specs.Midway.{Midway}
 use Rattle.copy_space.specs.Pages.{is_page_of}
 use Rattle.copy_space.specs.State.{CopyState}
+use Rattle.scavenge.specs.Noting.{IsDone}
 
 -- whether the objects on pages of a type may have fields
 abbrev pub may_have_fields : PageType → Bool
@@ -51,15 +51,15 @@ pub record CanScanPiece (a : NamedHeap) (s : CopyState) (index : ℕ) : Type 0 w
   pub below : index < page_words * page + fill_of (entry_at a.pages page)
   pub other : is_page_of (entry_at a.pages page) s.pass.generation ≡ false
 
--- each object that begins from an index on and below another one is scanned
-abbrev pub AreObjectsScanned : NamedHeap → CopyState → ℕ → ℕ → Type 0
-AreObjectsScanned a s from end = (name : ℕ) (o : Object) → object_at a.objects name ≡ Some o → from ≤ o.place → o.place < end → IsScanned a s o
+-- each object that begins from an index on and below another one is scanned, and noted if it is a weak pointer or a table
+abbrev pub AreObjectsScanned : NamedHeap → CopyState → List ℕ → ℕ → ℕ → Type 0
+AreObjectsScanned a s listed from end = (name : ℕ) (o : Object) → object_at a.objects name ≡ Some o → from ≤ o.place → o.place < end → IsDone a s listed o
 
 -- the piece from an index on up to the next is scanned
-pub record IsPieceScanned (a : NamedHeap) (s : CopyState) (index next : ℕ) : Type 0 where
+pub record IsPieceScanned (a : NamedHeap) (s : CopyState) (listed : List ℕ) (index next : ℕ) : Type 0 where
   pub edge : IsEdge a next
   pub more : index < next
-  pub scanned : AreObjectsScanned a s index next
+  pub scanned : AreObjectsScanned a s listed index next
 
 -- older roots may begin below so many words of a page, and nowhere else on it
 pub record CanScanPage (a : NamedHeap) (s : CopyState) (page words : ℕ) : Type 0 where

@@ -1,8 +1,10 @@
 //! Tracing: the fields of what is pinned, has moved or is older are evacuated, until nothing is left
-//! unscanned.
+//! unscanned. The weak pointers and tables among it are noted.
 #![tactic(auto)]
 
+mod clear;
 mod fields;
+mod noting;
 mod objects;
 mod older;
 mod queue;

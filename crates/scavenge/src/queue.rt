@@ -6,10 +6,12 @@ ghost use Rattle.heap_terms.specs.Heap.{NamedHeap};
 ghost use Rattle.copy_space.specs.Notes.{SameButMoves};
 ghost use Rattle.copy_space.specs.State.{state};
 ghost use Rattle.scavenge.specs.Fields.{IsSameCopier};
+ghost use Rattle.scavenge.specs.Noting.{Notes};
 ghost use Rattle.scavenge.specs.Scanning.{CanScan, Scans, AreScanned, IsAllScanned, AllOfGenerationScanned};
 
 use crate::objects::scan_object;
 use copy_space::Copier;
+use pin_set::PinSet;
 
 /// Of the pinned objects and of the moves of a pass, in their order, those below these numbers are
 /// scanned.
@@ -22,17 +24,18 @@ pub struct Scanned {
 }
 
 /// Scans the pinned objects that are not scanned yet.
-fn scan_pins(copier: &mut Copier, done: Scanned) -> Scanned
+fn scan_pins(copier: &mut Copier, weak: &mut PinSet, done: Scanned) -> Scanned
     ghost a: { NamedHeap }
-    requires { CanScan a (state copier.old) done }
+    requires { CanScan a (state copier.old) weak.old done }
     ensures scans { Scans a (state copier.old) (state copier.new) }
-    ensures scanned { AreScanned a (state copier.new) result }
+    ensures scanned { AreScanned a (state copier.new) weak.new.listed result }
+    ensures noting { Notes a (state copier.new) weak.old weak.new }
     ensures pins { result.pins ≡ length (state copier.new).pins }
     ensures same { IsSameCopier copier.old copier.new }
 {
     for i in done.pins..copier.pins().len() {
         let index = copier.pins().at(i);
-        scan_object(copier, index);
+        scan_object(copier, weak, index);
     }
     Scanned {
         pins: copier.pins().len(),
@@ -41,11 +44,12 @@ fn scan_pins(copier: &mut Copier, done: Scanned) -> Scanned
 }
 
 /// Scans the moved objects and the stays that are not scanned yet, and what that places.
-fn scan_moves(copier: &mut Copier, done: Scanned) -> Scanned
+fn scan_moves(copier: &mut Copier, weak: &mut PinSet, done: Scanned) -> Scanned
     ghost a: { NamedHeap }
-    requires { CanScan a (state copier.old) done }
+    requires { CanScan a (state copier.old) weak.old done }
     ensures scans { Scans a (state copier.old) (state copier.new) }
-    ensures scanned { AreScanned a (state copier.new) result }
+    ensures scanned { AreScanned a (state copier.new) weak.new.listed result }
+    ensures noting { Notes a (state copier.new) weak.old weak.new }
     ensures pins { result.pins ≡ done.pins }
     ensures moves { result.moves ≡ length (state copier.new).moves }
     ensures same { IsSameCopier copier.old copier.new }
@@ -53,20 +57,22 @@ fn scan_moves(copier: &mut Copier, done: Scanned) -> Scanned
     let mut moves = done.moves;
     while (moves as usize) < copier.notes().moves.len() {
         let index = copier.notes().moves[moves as usize].new;
-        scan_object(copier, index);
+        scan_object(copier, weak, index);
         moves += 1;
     }
     Scanned { moves, ..done }
 }
 
 /// Scans every pinned, moved and staying object that is not scanned yet, and what that places, until
-/// none is left. It takes no memory.
-pub fn scavenge_all(copier: &mut Copier, done: Scanned) -> Scanned
+/// none is left. It puts the start of each weak pointer and table among them into `weak`. It takes no
+/// memory.
+pub fn scavenge_all(copier: &mut Copier, weak: &mut PinSet, done: Scanned) -> Scanned
     ghost a: { NamedHeap }
-    requires { CanScan a (state copier.old) done }
+    requires { CanScan a (state copier.old) weak.old done }
     ensures scans { Scans a (state copier.old) (state copier.new) }
-    ensures all { AllOfGenerationScanned a (state copier.new) }
-    ensures scanned { AreScanned a (state copier.new) result }
+    ensures all { AllOfGenerationScanned a (state copier.new) weak.new.listed }
+    ensures scanned { AreScanned a (state copier.new) weak.new.listed result }
+    ensures noting { Notes a (state copier.new) weak.old weak.new }
     ensures whole { IsAllScanned (state copier.new) result }
     ensures notes { SameButMoves copier.old.notes.now copier.new.notes.now }
     ensures same_space { copier.new.space.ghost_name ≡ copier.old.space.ghost_name }
@@ -74,6 +80,6 @@ pub fn scavenge_all(copier: &mut Copier, done: Scanned) -> Scanned
     ensures same_marks { copier.new.marks.ghost_name ≡ copier.old.marks.ghost_name }
     ensures same_notes { copier.new.notes.ghost_name ≡ copier.old.notes.ghost_name }
 {
-    let done = scan_pins(copier, done);
-    scan_moves(copier, done)
+    let done = scan_pins(copier, weak, done);
+    scan_moves(copier, weak, done)
 }

@@ -1,9 +1,10 @@
 //! A pass traces an empty heap. Heaps with objects are traced in the tests of whole passes: what a
 //! copier works on has to stand for a heap.
 
-ghost use Rattle.std.specs.Prelude.{◌≡◌, [], vec_capacity};
+ghost use Rattle.std.specs.Prelude.{◌≡◌, ◌≤◌, [], vec_capacity};
 ghost use Rattle.heap_terms.specs.Heap.{NamedHeap};
 ghost use Rattle.copy_space.specs.Copying.{CanBegin};
+ghost use Rattle.copy_space.specs.WeakNames.{weak_count};
 
 use crate::{Scanned, scavenge_all, scavenge_older};
 use copy_space::{Copier, Marks, Pass, PassNotes};
@@ -19,18 +20,21 @@ fn trace(
     marks: &mut Marks,
     pins: &PinSet,
     notes: &mut PassNotes,
+    weak: &mut PinSet,
 ) -> Scanned
     ghost a: { NamedHeap }
     requires begins { CanBegin a space.old pages.old marks.old pins.now.listed 0 (vec_capacity notes.old.moves) }
     requires unmoved { notes.old.moves.items ≡ [] }
+    requires none { weak.old.listed ≡ [] }
+    requires room { weak_count a ≤ weak.old.most }
 {
     let pass = Pass {
         generation: 0,
         raise: false,
     };
     let mut copier = Copier::new(space, pages, marks, pins, pass, notes);
-    scavenge_older(&mut copier);
-    scavenge_all(&mut copier, Scanned { pins: 0, moves: 0 })
+    scavenge_older(&mut copier, weak);
+    scavenge_all(&mut copier, weak, Scanned { pins: 0, moves: 0 })
 }
 
 #[test]
@@ -52,8 +56,12 @@ fn an_empty_heap_has_nothing_to_scan(rt: HostRuntime) -> Result<(), Fail> {
         dead: 0,
         kept: 0,
     };
-    let done = trace(&mut space, &mut pages, &mut marks, &pins, &mut notes);
+    let mut weak = PinSet::new(alloc, 1)?;
+    let done = trace(
+        &mut space, &mut pages, &mut marks, &pins, &mut notes, &mut weak,
+    );
     assert_eq!(rt; done, Scanned { pins: 0, moves: 0 });
     assert_eq!(rt; notes.moves.len(), 0);
+    assert_eq!(rt; weak.len(), 0);
     Ok(())
 }

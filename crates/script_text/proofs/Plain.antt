@@ -145,6 +145,8 @@ no_comment names.Vector = refl
 no_comment names.Instance = refl
 no_comment names.Closure = refl
 no_comment names.Words = refl
+no_comment names.Weak = refl
+no_comment names.Table = refl
 no_comment names.Get = refl
 no_comment names.Put = refl
 no_comment names.RawGet = refl
@@ -156,11 +158,19 @@ no_comment names.Raw = refl
 no_comment names.Add = refl
 no_comment names.Pin = refl
 no_comment names.Unpin = refl
+no_comment names.WeakVal = refl
+no_comment names.TablePut = refl
+no_comment names.TableGet = refl
+no_comment names.TableRem = refl
+no_comment names.TableCount = refl
 no_comment names.Gc = refl
 no_comment names.Page = refl
 no_comment names.Stat = refl
 no_comment names.Nogc = refl
 no_comment names.Gcok = refl
+no_comment names.Finalize = refl
+no_comment names.Cancel = refl
+no_comment names.Runfin = refl
 
 follows : (name : Name) → may_follow InThread (text_of_name name) ≡ true
 follows names.Fix = refl
@@ -171,6 +181,8 @@ follows names.Vector = refl
 follows names.Instance = refl
 follows names.Closure = refl
 follows names.Words = refl
+follows names.Weak = refl
+follows names.Table = refl
 follows names.Get = refl
 follows names.Put = refl
 follows names.RawGet = refl
@@ -182,11 +194,19 @@ follows names.Raw = refl
 follows names.Add = refl
 follows names.Pin = refl
 follows names.Unpin = refl
+follows names.WeakVal = refl
+follows names.TablePut = refl
+follows names.TableGet = refl
+follows names.TableRem = refl
+follows names.TableCount = refl
 follows names.Gc = refl
 follows names.Page = refl
 follows names.Stat = refl
 follows names.Nogc = refl
 follows names.Gcok = refl
+follows names.Finalize = refl
+follows names.Cancel = refl
+follows names.Runfin = refl
 
 -- how a command is judged behind a `thread` line
 word_judged : (word : List ℕ) (s : SoFar) (fs : List (List ℕ)) → eqb (slice_index word 0) 59 ≡ false → is_built word ≡ true → may_follow InThread word ≡ true → s.place ≡ InThread →

@@ -7,8 +7,8 @@ use Rattle.heap_terms.specs.declared.commands.Command.{Command}
 use Rattle.heap_terms.specs.declared.commands.Command.TheVariants as commands
 use Rattle.heap_terms.specs.declared.faults.Why.{Why}
 use Rattle.heap_terms.specs.declared.faults.Why.TheVariants.{Fields}
-use Rattle.heap_terms.specs.Fields.{◌>>=◌, at_most, is_fixnum, is_i64}
-use Rattle.heap_terms.specs.Grammar.{FieldForm, LispCell, RawCell, RawWord, Signed, Wide, Number, Meaning, Saying, Statement, Does, Row, Small, meaning_of, said_of, rows, row, said_by, statement_of}
+use Rattle.heap_terms.specs.Fields.{◌>>=◌, between, at_most, is_fixnum, is_i64}
+use Rattle.heap_terms.specs.Grammar.{FieldForm, LispCell, RawCell, RawWord, WeaknessWord, Signed, Wide, Number, Meaning, Saying, Statement, Does, Row, Small, meaning_of, said_of, rows, row, said_by, statement_of}
 use Rattle.script_text.specs.declared.words.Name.{Name}
 use Rattle.script_text.specs.declared.words.Name.TheVariants as names
 use Rattle.script_text.specs.Commands.{in_first, but_first, front_command, field_count, does}
@@ -34,6 +34,8 @@ row_of names.Vector = row (codes "vector") (LispCell ∷ Small ∷ []) (λ d n. 
 row_of names.Instance = row (codes "instance") (LispCell ∷ Small ∷ []) (λ d n. Does (commands.NewInstance d n))
 row_of names.Closure = row (codes "closure") (LispCell ∷ Small ∷ []) (λ d n. Does (commands.NewClosure d n))
 row_of names.Words = row (codes "words") (LispCell ∷ Small ∷ RawWord ∷ []) (λ d n w. Does (commands.NewWords d n w))
+row_of names.Weak = row (codes "weak") (LispCell ∷ LispCell ∷ []) (λ d c. Does (commands.NewWeak d c))
+row_of names.Table = row (codes "table") (LispCell ∷ WeaknessWord ∷ Number (between 1 64) ∷ []) (λ d w b. Does (commands.NewTable d w b))
 row_of names.Get = row (codes "get") (LispCell ∷ LispCell ∷ Small ∷ []) (λ d c i. Does (commands.Get d c i))
 row_of names.Put = row (codes "put") (LispCell ∷ Small ∷ LispCell ∷ []) (λ c i a. Does (commands.Put c i a))
 row_of names.RawGet = row (codes "rawget") (RawCell ∷ LispCell ∷ Small ∷ []) (λ r c i. Does (commands.RawGet r c i))
@@ -45,11 +47,19 @@ row_of names.Raw = row (codes "raw") (RawCell ∷ RawWord ∷ []) (λ r w. Does 
 row_of names.Add = row (codes "add") (RawCell ∷ Signed is_i64 ∷ []) (λ r k. Does (commands.AddRaw r k))
 row_of names.Pin = row (codes "pin") (LispCell ∷ []) (λ c. Does (commands.Pin c))
 row_of names.Unpin = row (codes "unpin") [] (Does commands.Unpin)
+row_of names.WeakVal = row (codes "weakval") (LispCell ∷ LispCell ∷ []) (λ d c. Does (commands.WeakVal d c))
+row_of names.TablePut = row (codes "tput") (LispCell ∷ LispCell ∷ LispCell ∷ []) (λ c k v. Does (commands.TablePut c k v))
+row_of names.TableGet = row (codes "tget") (LispCell ∷ LispCell ∷ LispCell ∷ []) (λ d c k. Does (commands.TableGet d c k))
+row_of names.TableRem = row (codes "trem") (LispCell ∷ LispCell ∷ []) (λ c k. Does (commands.TableRem c k))
+row_of names.TableCount = row (codes "tcount") (LispCell ∷ []) (λ c. Does (commands.TableCount c))
 row_of names.Gc = row (codes "gc") (Number (at_most 5) ∷ []) (λ g. Does (commands.Collect g))
 row_of names.Page = row (codes "page") (Wide ∷ []) (λ p. Does (commands.ShowPage p))
 row_of names.Stat = row (codes "stat") (Number (at_most 6) ∷ []) (λ g. Does (commands.Stat g))
 row_of names.Nogc = row (codes "nogc") [] (Does commands.Inhibit)
 row_of names.Gcok = row (codes "gcok") [] (Does commands.Allow)
+row_of names.Finalize = row (codes "finalize") (LispCell ∷ Wide ∷ []) (λ c id. Does (commands.Finalize c id))
+row_of names.Cancel = row (codes "cancel") (LispCell ∷ []) (λ c. Does (commands.Cancel c))
+row_of names.Runfin = row (codes "runfin") [] (Does commands.RunFinalizers)
 
 statement_is : (name : Name) (threads : ℕ) (fs : List (List ℕ)) → statement_of threads (text_of_name name) fs ≡ said_by (row_of name) fs
 unfolding statement_of rows row_of
@@ -61,6 +71,8 @@ statement_is names.Vector threads fs = refl
 statement_is names.Instance threads fs = refl
 statement_is names.Closure threads fs = refl
 statement_is names.Words threads fs = refl
+statement_is names.Weak threads fs = refl
+statement_is names.Table threads fs = refl
 statement_is names.Get threads fs = refl
 statement_is names.Put threads fs = refl
 statement_is names.RawGet threads fs = refl
@@ -72,11 +84,19 @@ statement_is names.Raw threads fs = refl
 statement_is names.Add threads fs = refl
 statement_is names.Pin threads fs = refl
 statement_is names.Unpin threads fs = refl
+statement_is names.WeakVal threads fs = refl
+statement_is names.TablePut threads fs = refl
+statement_is names.TableGet threads fs = refl
+statement_is names.TableRem threads fs = refl
+statement_is names.TableCount threads fs = refl
 statement_is names.Gc threads fs = refl
 statement_is names.Page threads fs = refl
 statement_is names.Stat threads fs = refl
 statement_is names.Nogc threads fs = refl
 statement_is names.Gcok threads fs = refl
+statement_is names.Finalize threads fs = refl
+statement_is names.Cancel threads fs = refl
+statement_is names.Runfin threads fs = refl
 
 abbrev front_said : Row → List (List ℕ) → Result Statement Why
 front_said r fs = said_of r.forms r.says fs
@@ -115,6 +135,8 @@ front_is names.Vector fs = two LispCell Small commands.NewVector fs
 front_is names.Instance fs = two LispCell Small commands.NewInstance fs
 front_is names.Closure fs = two LispCell Small commands.NewClosure fs
 front_is names.Words fs = three LispCell Small RawWord commands.NewWords fs
+front_is names.Weak fs = two LispCell LispCell commands.NewWeak fs
+front_is names.Table fs = three LispCell WeaknessWord (Number (between 1 64)) commands.NewTable fs
 front_is names.Get fs = three LispCell LispCell Small commands.Get fs
 front_is names.Put fs = three LispCell Small LispCell commands.Put fs
 front_is names.RawGet fs = three RawCell LispCell Small commands.RawGet fs
@@ -126,11 +148,19 @@ front_is names.Raw fs = two RawCell RawWord commands.SetRaw fs
 front_is names.Add fs = two RawCell (Signed is_i64) commands.AddRaw fs
 front_is names.Pin fs = one LispCell commands.Pin fs
 front_is names.Unpin fs = refl
+front_is names.WeakVal fs = two LispCell LispCell commands.WeakVal fs
+front_is names.TablePut fs = three LispCell LispCell LispCell commands.TablePut fs
+front_is names.TableGet fs = three LispCell LispCell LispCell commands.TableGet fs
+front_is names.TableRem fs = two LispCell LispCell commands.TableRem fs
+front_is names.TableCount fs = one LispCell commands.TableCount fs
 front_is names.Gc fs = one (Number (at_most 5)) commands.Collect fs
 front_is names.Page fs = one Wide commands.ShowPage fs
 front_is names.Stat fs = one (Number (at_most 6)) commands.Stat fs
 front_is names.Nogc fs = refl
 front_is names.Gcok fs = refl
+front_is names.Finalize fs = two LispCell Wide commands.Finalize fs
+front_is names.Cancel fs = one LispCell commands.Cancel fs
+front_is names.Runfin fs = refl
 
 count_is : (name : Name) → length (row_of name).forms ≡ field_count name
 unfolding row_of
@@ -142,6 +172,8 @@ count_is names.Vector = refl
 count_is names.Instance = refl
 count_is names.Closure = refl
 count_is names.Words = refl
+count_is names.Weak = refl
+count_is names.Table = refl
 count_is names.Get = refl
 count_is names.Put = refl
 count_is names.RawGet = refl
@@ -153,11 +185,19 @@ count_is names.Raw = refl
 count_is names.Add = refl
 count_is names.Pin = refl
 count_is names.Unpin = refl
+count_is names.WeakVal = refl
+count_is names.TablePut = refl
+count_is names.TableGet = refl
+count_is names.TableRem = refl
+count_is names.TableCount = refl
 count_is names.Gc = refl
 count_is names.Page = refl
 count_is names.Stat = refl
 count_is names.Nogc = refl
 count_is names.Gcok = refl
+count_is names.Finalize = refl
+count_is names.Cancel = refl
+count_is names.Runfin = refl
 
 -- ---- counting the fields
 

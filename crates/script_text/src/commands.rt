@@ -18,18 +18,37 @@ impl Name {
         ensures { result ≡ field_count self }
     {
         match self {
-            Name::Unpin | Name::Nogc | Name::Gcok => 0,
-            Name::Nil | Name::Show | Name::Pin | Name::Gc | Name::Page | Name::Stat => 1,
+            Name::Unpin | Name::Nogc | Name::Gcok | Name::Runfin => 0,
+            Name::Nil
+            | Name::Show
+            | Name::Pin
+            | Name::TableCount
+            | Name::Gc
+            | Name::Page
+            | Name::Stat
+            | Name::Cancel => 1,
             Name::Fix
             | Name::Move
             | Name::Vector
             | Name::Instance
             | Name::Closure
+            | Name::Weak
             | Name::Eq
             | Name::Addr
             | Name::Raw
-            | Name::Add => 2,
-            Name::Cons | Name::Words | Name::Get | Name::Put | Name::RawGet | Name::RawPut => 3,
+            | Name::Add
+            | Name::WeakVal
+            | Name::TableRem
+            | Name::Finalize => 2,
+            Name::Cons
+            | Name::Words
+            | Name::Table
+            | Name::Get
+            | Name::Put
+            | Name::RawGet
+            | Name::RawPut
+            | Name::TablePut
+            | Name::TableGet => 3,
         }
     }
 }
@@ -113,6 +132,17 @@ fn front(name: Name, left: &mut Cursor) -> Result<Command, Why>
             let w = left.raw_word()?;
             Ok(Command::NewWords { d, n, w })
         }
+        Name::Weak => {
+            let d = left.cell()?;
+            let c = left.cell()?;
+            Ok(Command::NewWeak { d, c })
+        }
+        Name::Table => {
+            let d = left.cell()?;
+            let w = left.weakness()?;
+            let b = left.capacity()?;
+            Ok(Command::NewTable { d, w, b })
+        }
         Name::Get => {
             let d = left.cell()?;
             let c = left.cell()?;
@@ -166,6 +196,32 @@ fn front(name: Name, left: &mut Cursor) -> Result<Command, Why>
             Ok(Command::Pin { c })
         }
         Name::Unpin => Ok(Command::Unpin),
+        Name::WeakVal => {
+            let d = left.cell()?;
+            let c = left.cell()?;
+            Ok(Command::WeakVal { d, c })
+        }
+        Name::TablePut => {
+            let c = left.cell()?;
+            let k = left.cell()?;
+            let v = left.cell()?;
+            Ok(Command::TablePut { c, k, v })
+        }
+        Name::TableGet => {
+            let d = left.cell()?;
+            let c = left.cell()?;
+            let k = left.cell()?;
+            Ok(Command::TableGet { d, c, k })
+        }
+        Name::TableRem => {
+            let c = left.cell()?;
+            let k = left.cell()?;
+            Ok(Command::TableRem { c, k })
+        }
+        Name::TableCount => {
+            let c = left.cell()?;
+            Ok(Command::TableCount { c })
+        }
         Name::Gc => {
             let g = left.generation(OLDEST_COLLECTED)?;
             Ok(Command::Collect { g })
@@ -180,6 +236,16 @@ fn front(name: Name, left: &mut Cursor) -> Result<Command, Why>
         }
         Name::Nogc => Ok(Command::Inhibit),
         Name::Gcok => Ok(Command::Allow),
+        Name::Finalize => {
+            let c = left.cell()?;
+            let id = left.wide()?;
+            Ok(Command::Finalize { c, id })
+        }
+        Name::Cancel => {
+            let c = left.cell()?;
+            Ok(Command::Cancel { c })
+        }
+        Name::Runfin => Ok(Command::RunFinalizers),
     }
 }
 
@@ -384,14 +450,24 @@ fn plain_front(name: Name, rest: &[u8]) -> Option<(Command, &[u8])>
         Name::Addr => plain_addr(rest),
         Name::Add => plain_add(rest),
         Name::Words
+        | Name::Weak
+        | Name::Table
         | Name::Raw
         | Name::Pin
         | Name::Unpin
+        | Name::WeakVal
+        | Name::TablePut
+        | Name::TableGet
+        | Name::TableRem
+        | Name::TableCount
         | Name::Gc
         | Name::Page
         | Name::Stat
         | Name::Nogc
-        | Name::Gcok => None,
+        | Name::Gcok
+        | Name::Finalize
+        | Name::Cancel
+        | Name::Runfin => None,
     }
 }
 

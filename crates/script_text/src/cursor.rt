@@ -5,17 +5,18 @@ ghost use Rattle.std.specs.Str.Lines.{lines};
 ghost use Rattle.heap_terms.specs.Fields.{turns_of};
 ghost use Rattle.heap_terms.specs.declared.faults.Why.TheVariants.{Fields};
 ghost use Rattle.script_text.specs.ReaderAnswers.{only_field};
-ghost use Rattle.script_text.specs.Commands.{Moved, but_first, in_first, a_cell, an_index, a_fixnum, a_signed, a_wide, a_generation, a_raw_cell, a_raw_word, SaysCommand};
+ghost use Rattle.script_text.specs.Commands.{Moved, but_first, in_first, a_cell, an_index, a_fixnum, a_signed, a_wide, a_generation, a_weakness, a_capacity, a_raw_cell, a_raw_word, SaysCommand};
 ghost use Rattle.script_text.specs.Left.{Taken, NoneLeft, fields_left, lines_after};
 ghost use Rattle.script_text.specs.Values.{one_by_one};
 
 use crate::cells::{cell, raw_cell};
 use crate::commands::plain_command;
 use crate::fields::{len_of_field, without_blanks};
-use crate::numbers::{fixnum, number_up_to, signed};
+use crate::numbers::{capacity, fixnum, number_up_to, signed};
 use crate::raw_words::raw_word;
 use crate::turns::{Turns, plain_digit, turns_in};
-use heap_terms::{Cell, Command, MOST_ELEMENTS, Raw, Why};
+use crate::weaknesses::weakness;
+use heap_terms::{Cell, Command, MOST_ELEMENTS, Raw, Weakness, Why};
 use std::marker::Model;
 
 /// Where the bytes are that are not read yet.
@@ -164,6 +165,24 @@ impl<'a> Cursor<'a> {
         let field = self.field()?;
         let generation = number_up_to(field, u32::from(oldest))?;
         Ok(generation as u8)
+    }
+
+    /// The weakness of a table.
+    pub(crate) fn weakness(&mut self) -> Result<Weakness, Why>
+        ensures value { result ≡ in_first a_weakness (fields_left self.old) }
+        ensures moved { OnOk result (Moved self.old self.new) }
+    {
+        let field = self.field()?;
+        weakness(field)
+    }
+
+    /// For how many pairs a table has room.
+    pub(crate) fn capacity(&mut self) -> Result<u32, Why>
+        ensures value { result ≡ in_first a_capacity (fields_left self.old) }
+        ensures moved { OnOk result (Moved self.old self.new) }
+    {
+        let field = self.field()?;
+        capacity(field)
     }
 
     /// A raw cell.

@@ -15,6 +15,7 @@ mod schedules;
 #[cfg(test)]
 mod tests;
 mod turns;
+mod weaknesses;
 mod words;
 
 ghost use Rattle.std.specs.Prelude.{◌<◌, ◌-◌, ◌^◌, length, IfOk};

@@ -7,10 +7,11 @@ ghost use Rattle.std.specs.List.{list_all};
 ghost use Rattle.std.specs.Str.Parse.{digits_value};
 ghost use Rattle.heap_terms.specs.Fields.{number_of, ranged, between, at_most, is_auto, is_fixnum, is_i64, signed_of};
 ghost use Rattle.script_text.specs.Commands.{Reads, an_index, a_fixnum, a_signed};
+ghost use Rattle.heap_terms.specs.declared.limits.TheConstants.{MOST_PAIRS};
 ghost use Rattle.script_text.specs.Values.{pages_of, NumberAt};
 
 use crate::fields::ends_plainly;
-use heap_terms::{LEAST_AUTO, MOST_AUTO, MOST_ELEMENTS, Why};
+use heap_terms::{LEAST_AUTO, MOST_AUTO, MOST_ELEMENTS, MOST_PAIRS, Why};
 
 /// The value of decimal digits; one above `u64::MAX` is given as `u64::MAX`.
 fn value_of_digits(digits: &[u8]) -> Option<u64>
@@ -85,6 +86,22 @@ pub(crate) fn auto_words(field: &[u8]) -> Result<u64, Why>
         Some(n) => {
             if n == 0 || (u64::from(LEAST_AUTO) <= n && n <= u64::from(MOST_AUTO)) {
                 Ok(n)
+            } else {
+                Err(Why::Range)
+            }
+        }
+    }
+}
+
+/// For how many pairs a table has room.
+pub(crate) fn capacity(field: &[u8]) -> Result<u32, Why>
+    ensures { result ≡ ranged (between 1 MOST_PAIRS) (number_of field.now) }
+{
+    match number(field) {
+        None => Err(Why::Form),
+        Some(n) => {
+            if 1 <= n && n <= u64::from(MOST_PAIRS) {
+                Ok(n as u32)
             } else {
                 Err(Why::Range)
             }

@@ -187,6 +187,13 @@ impl<P: Owned> StopWords<P> {
         }
     }
 
+    /// How many threads there are. It takes no memory.
+    pub fn threads(&self) -> u32
+        ensures { result ≡ threads_of self.now }
+    {
+        self.threads
+    }
+
     /// Takes the parcels out of the slots, by ascending thread, and ends the stop words. It takes
     /// no memory.
     ///

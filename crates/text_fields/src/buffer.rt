@@ -1,13 +1,17 @@
 //! The buffer to which the journal is appended. A line reserves its room at its start; what is
 //! appended to it then takes no memory and makes no test.
 
-ghost use Rattle.std.specs.Prelude.{◌≡◌, ◌+◌, ◌≤◌, [], ◌++◌, length, OnOk, IfOk};
+ghost use Rattle.std.specs.Prelude.{◌≡◌, ◌+◌, ◌≤◌, [], ◌++◌, ◌*◌, ◌∷◌, length, OnOk, IfOk, decimal};
+ghost use Rattle.heap_terms.specs.Text.{field, name_text, index_text, cell_field};
 
+use crate::cursor::{put_index_end, put_number, put_object, put_three_cells};
+use crate::room::{CELL_FIELD, INDEX_FIELD, NUMBER, OBJECT};
+use heap_terms::Cell;
 use std::alloc::{AllocError, Global};
 use std::marker::Model;
 
-/// A text that is being made. The bytes behind its end are there already, all 0, so that a piece is
-/// written over them as a whole.
+/// A text that is being made. There are bytes behind its end already, which mean nothing, so that a
+/// piece is written over them as a whole.
 #[derive(Drop)]
 pub struct Text {
     bytes: Vec<u8>,
@@ -81,6 +85,56 @@ impl Text {
         let end = start + piece.len();
         self.bytes[start..end].copy_from_slice(piece);
         self.end = end;
+    }
+
+    /// Appends a number, for which there is room.
+    #[inline(always)]
+    pub fn push_number(&mut self, n: u64)
+        requires { NUMBER ≤ self.old.room }
+        ensures text { self.new.text ≡ self.old.text ++ decimal n }
+        ensures room { self.old.room ≤ self.new.room + NUMBER }
+    {
+        let start = self.end;
+        self.end = put_number(self.bytes.as_mut_slice(), start, n);
+    }
+
+    /// Appends a word and, each as a field, the name of an object and an index. There is room for it.
+    #[inline(always)]
+    pub fn push_object<const N: usize>(&mut self, word: &[u8; N], name: u32, index: u32)
+        requires { N + OBJECT ≤ self.old.room }
+        ensures text { self.new.text ≡ self.old.text ++ (word.now ++ (field (name_text name) ++ field (index_text index))) }
+        ensures room { self.old.room ≤ self.new.room + (N + OBJECT) }
+    {
+        let start = self.end;
+        self.end = put_object(self.bytes.as_mut_slice(), start, word, name, index);
+    }
+
+    /// Appends an index as a field, and ends the line. There is room for it.
+    #[inline(always)]
+    pub fn push_index_end(&mut self, index: u32)
+        requires { INDEX_FIELD + 1 ≤ self.old.room }
+        ensures text { self.new.text ≡ self.old.text ++ (field (index_text index) ++ 10 ∷ []) }
+        ensures room { self.old.room ≤ self.new.room + (INDEX_FIELD + 1) }
+    {
+        let start = self.end;
+        self.end = put_index_end(self.bytes.as_mut_slice(), start, index);
+    }
+
+    /// Appends a word and, each as a field, three cells. There is room for them and some more.
+    #[inline(always)]
+    pub(crate) fn push_three_cells<const N: usize>(
+        &mut self,
+        word: &[u8; N],
+        a: Cell,
+        b: Cell,
+        c: Cell,
+    )
+        requires { N + 32 ≤ self.old.room }
+        ensures text { self.new.text ≡ self.old.text ++ (word.now ++ (cell_field a ++ cell_field b ++ cell_field c)) }
+        ensures room { self.old.room ≤ self.new.room + (N + 3 * CELL_FIELD) }
+    {
+        let start = self.end;
+        self.end = put_three_cells(self.bytes.as_mut_slice(), start, word, a, b, c);
     }
 
     /// Appends bytes.

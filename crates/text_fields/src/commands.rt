@@ -78,14 +78,11 @@ fn with_two<const N: usize>(out: &mut Text, name: &[u8; N], a: Cell, b: Cell)
 
 #[inline(always)]
 fn with_three<const N: usize>(out: &mut Text, name: &[u8; N], a: Cell, b: Cell, c: Cell)
-    requires { N + 3 * CELL_FIELD ≤ out.old.room }
+    requires { N + 32 ≤ out.old.room }
     ensures text { out.new.text ≡ out.old.text ++ (name.now ++ (cell_field a ++ cell_field b ++ cell_field c)) }
     ensures room { out.old.room ≤ out.new.room + (N + 3 * CELL_FIELD) }
 {
-    push(out, name);
-    push_cell(out, a);
-    push_cell(out, b);
-    push_cell(out, c);
+    out.push_three_cells(name, a, b, c);
 }
 
 #[inline(always)]

@@ -2,12 +2,14 @@
 
 ghost use Rattle.std.specs.Prelude.{◌≡◌, ◌+◌, ◌/◌, ◌%◌, ◌<◌, ◌≤◌, [], ◌∷◌, ◌++◌, OnOk, codes, decimal, flat_map};
 ghost use Rattle.std.specs.Fmt.{signed_decimal};
-ghost use Rattle.heap_terms.specs.Text.{cell_text, cell_field, raw_field, number_field, field, hex_digit, hex_digits, word_text, name_text, index_text, value_text};
+ghost use Rattle.heap_terms.specs.Text.{cell_field, raw_field, number_field, field, hex_digit, hex_digits, word_text, name_text, index_text, value_text, line};
 
 use crate::buffer::Text;
+use crate::cursor::parts_of;
 use crate::numbers::{push_number, push_number_field, push_signed_field, push_small};
 use crate::room::{
-    CELL_FIELD, INDEX, INDEX_FIELD, NAME_FIELD, NUMBER, NUMBER_FIELD, VALUE_FIELD, WORD, WORD_FIELD,
+    CELL_FIELD, INDEX, INDEX_FIELD, NAME_FIELD, NUMBER, NUMBER_FIELD, OBJECT, VALUE_FIELD, WORD,
+    WORD_FIELD,
 };
 use heap_terms::{Cell, Raw, Value};
 use std::alloc::AllocError;
@@ -20,18 +22,6 @@ pub fn push<const N: usize>(out: &mut Text, bytes: &[u8; N])
     ensures room { out.old.room ≤ out.new.room + N }
 {
     out.push(bytes);
-}
-
-/// The letter and the number of a cell.
-#[inline(always)]
-fn parts_of(c: Cell) -> (u8, u8)
-    ensures { cell_text c ≡ result.0 ∷ decimal result.1 }
-{
-    match c {
-        Cell::Stack(i) => (b's', i),
-        Cell::Exact(i) => (b'b', i),
-        Cell::Shared(i) => (b'g', i),
-    }
 }
 
 /// Appends a field that is a letter and a number.
@@ -145,6 +135,26 @@ pub fn push_index_field(out: &mut Text, index: u32)
 {
     push(out, b" @");
     push_number(out, index as u64);
+}
+
+/// Appends a word and, each as a field, the name of an object and an index.
+#[inline(always)]
+pub fn push_object<const N: usize>(out: &mut Text, word: &[u8; N], name: u32, index: u32)
+    requires { N + OBJECT ≤ out.old.room }
+    ensures text { out.new.text ≡ out.old.text ++ (word.now ++ (field (name_text name) ++ field (index_text index))) }
+    ensures room { out.old.room ≤ out.new.room + (N + OBJECT) }
+{
+    out.push_object(word, name, index);
+}
+
+/// Appends an index as a field, and ends the line.
+#[inline(always)]
+pub fn push_index_end(out: &mut Text, index: u32)
+    requires { INDEX_FIELD + 1 ≤ out.old.room }
+    ensures text { out.new.text ≡ out.old.text ++ line (field (index_text index)) }
+    ensures room { out.old.room ≤ out.new.room + (INDEX_FIELD + 1) }
+{
+    out.push_index_end(index);
 }
 
 /// Appends a value as a field.

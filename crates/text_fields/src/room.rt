@@ -27,6 +27,9 @@ pub const INDEX: usize = 1 + NUMBER;
 /// An index as a field.
 pub const INDEX_FIELD: usize = 1 + INDEX;
 
+/// A name and an index, each as a field.
+pub const OBJECT: usize = NAME_FIELD + INDEX_FIELD;
+
 /// A value as a field, the longest of which is the name of an object.
 pub const VALUE_FIELD: usize = NAME_FIELD;
 

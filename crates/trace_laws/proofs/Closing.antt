@@ -24,41 +24,11 @@ use Rattle.copy_space.specs.Settled.{is_settled}
 use Rattle.copy_space.specs.State.{CopyState}
 use Rattle.copy_space.proofs.Referents.{mark_is, settles-not}
 use Rattle.trace_laws.specs.Rooted.{Rooted, IsExactRoot}
-use Rattle.trace_laws.specs.Traced.{IsTraced, IsStrong, IsStrongHeap}
+use Rattle.trace_laws.specs.Traced.{IsTraced}
 
--- the slot of a field behind a header
-headed-slot : (kind : Kind) (vs : List Value) (i : ℕ) → i < length vs → slice_get (under_header kind (map Val vs)) (suc i) ≡ Some (Val (get_or vs i zero_value))
-headed-slot kind vs i l =
-    let payload = map Val vs in
-    let pad = replicate (size_with_header (length payload) - (length payload + 1)) (Raw 0) in
-    let long : length payload ≡ length vs = length-map vs Val in
-    let inside : i < length (payload ++ pad) = omega (arith, length-append payload pad) in
-    slice_get-get_or (payload ++ pad) i (Val zero_value) inside
-    ∙ ap {B = Option Slot} (λ (x : Slot). Some x) (get_or_append_left payload pad (Val zero_value) i (omega arith) ∙ get_or-map Val vs i zero_value (Val zero_value) l)
-
--- the values of all fields of an object are in a set
-abbrev AreFieldsLive : (ℕ → Bool) → Contents → Type 0
-AreFieldsLive set k = (i : ℕ) (v : Value) → slot_at k i ≡ Some (Val v) → is_live set v ≡ true
-
-headed-live : (set : ℕ → Bool) (kind : Kind) (vs : List Value) → ((i : ℕ) (v : Value) → slice_get (under_header kind (map Val vs)) i ≡ Some (Val v) → is_live set v ≡ true) → AreLive set vs
-headed-live set kind vs h i = elim (cases_lt i (length vs)) [
-  | inl l ↦ h (suc i) (get_or vs i zero_value) (headed-slot kind vs i l)
-  | inr l ↦ rw (get_or_past vs i zero_value l) refl
-]
-
--- so the object's contents keep to the set
-keeps : (set : ℕ → Bool) (k : Contents) → IsStrong k → AreFieldsLive set k → Keeps set k
-keeps set (ConsOf a b) strong h = (h 0 a refl, h 1 b refl)
-keeps set (VectorOf vs) strong h = headed-live set kinds.Vector vs h
-keeps set (InstanceOf vs) strong h = headed-live set kinds.Instance vs h
-keeps set (ClosureOf vs) strong h = headed-live set kinds.Closure vs h
-keeps set (WordsOf ws) strong h = tt
-keeps set (WeakTo v) strong h = absurd strong
-keeps set (TableOf w b pairs) strong h = absurd strong
-
-module _ (h : Rooted) (s : CopyState) (exact : List ℕ) (names_are : (name : ℕ) → IsExactRoot h.heap name ↔ HasName h.values name) (t : IsTraced h s exact) (strong : IsStrongHeap h.heap) where
+module _ (h : Rooted) (s : CopyState) (exact : List ℕ) (names_are : (name : ℕ) → IsExactRoot h.heap name ↔ HasName h.values name) (t : IsTraced h s exact) where
   abbrev p : IsPlacedSoFar h.heap s
-  p = t.midway.places
+  p = t.places
 
   -- cells of exact roots have settled values
   cells : (vs : List Value) → ((name : ℕ) → HasName vs name → IsExactRoot h.heap name) → AreLive (is_settled h.heap s) vs
@@ -102,7 +72,7 @@ module _ (h : Rooted) (s : CopyState) (exact : List ℕ) (names_are : (name : �
     exact = λ u. cells (thread_at h.heap u).exact (λ name has. inl (u, has));
     shared = cells h.heap.shared (λ name has. inr has);
     hit = hit_settled;
-    members = λ name o e on. keeps (is_settled h.heap s) o.contents (strong.objects name o e) (λ i v slot. (t.scanned name o e on i v slot).settled);
+    members = t.keeps;
   }
 
   pub settled-live : AreLiveNames h.heap s.pass.generation (is_settled h.heap s)

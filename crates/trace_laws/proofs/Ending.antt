@@ -32,7 +32,7 @@ use Rattle.copy_space.proofs.Referents.{ms, its}
 use Rattle.trace_laws.specs.Ends.{IsEnd}
 use Rattle.trace_laws.specs.Noted.{IsMoveOf, IsPinOf}
 use Rattle.trace_laws.specs.Rooted.{Rooted, IsExactRoot}
-use Rattle.trace_laws.specs.Traced.{IsTraced, IsStrongHeap}
+use Rattle.trace_laws.specs.Traced.{IsTraced}
 use Rattle.trace_laws.proofs.Closing.{settled-live}
 use Rattle.trace_laws.proofs.Kept.{kept-is, dead-is}
 use Rattle.trace_laws.proofs.Moves.{moves-named, moves-once, moves-movable, moves-of}
@@ -66,16 +66,16 @@ whole_record a r = record r {
 }
 
 module _ (h : Rooted) (s : CopyState) (exact : List ℕ) (target : ℕ) (names_are : (name : ℕ) → IsExactRoot h.heap name ↔ HasName h.values name)
-    (t : IsTraced h s exact) (strong : IsStrongHeap h.heap) (n : NamedPins h.heap s.pass.generation s.pins) (r : PassRecord)
-    (told : HasMovesAndPins h.heap s (ms h.heap s t.midway.places) n.pins r) (target_is : r.target ≡ target) (lists : HasLists h.heap r) where
+    (t : IsTraced h s exact) (n : NamedPins h.heap s.pass.generation s.pins) (r : PassRecord)
+    (told : HasMovesAndPins h.heap s (ms h.heap s t.places) n.pins r) (target_is : r.target ≡ target) (lists : HasLists h.heap r) where
   abbrev p : IsPlacedSoFar h.heap s
-  p = t.midway.places
+  p = t.places
 
   same : (name : ℕ) → remains h.heap r name ≡ is_settled h.heap s name
-  same = remains-settled h.heap s t.midway.places n r told
+  same = remains-settled h.heap s t.places n r told
 
   remaining_live : AreLiveNames h.heap s.pass.generation (remains h.heap r)
-  remaining_live = subst (λ (set : ℕ → Bool). AreLiveNames h.heap s.pass.generation set) (λ i x. sym (same x) i) (settled-live h s exact names_are t strong)
+  remaining_live = subst (λ (set : ℕ → Bool). AreLiveNames h.heap s.pass.generation set) (λ i x. sym (same x) i) (settled-live h s exact names_are t)
 
   lawful : IsPass h.heap s.pass.generation target r
   lawful = record {
@@ -136,14 +136,14 @@ module _ (h : Rooted) (s : CopyState) (exact : List ℕ) (target : ℕ) (names_a
 
 -- tracing always comes to that
 pub traces-end : (h : Rooted) (s : CopyState) (exact : List ℕ) (target : ℕ) → ((name : ℕ) → IsExactRoot h.heap name ↔ HasName h.values name) →
-    IsTraced h s exact → IsStrongHeap h.heap → target ≤ OLDEST_GENERATION → (r : PassRecord) × IsEnd h.heap s target r
-traces-end h s exact target names_are t strong low =
+    IsTraced h s exact → target ≤ OLDEST_GENERATION → (r : PassRecord) × IsEnd h.heap s target r
+traces-end h s exact target names_are t low =
     let n = named-pins h.heap s.pass.generation s.pins t.pins.each in
-    let bare = bare_record s.pass.generation target (ms h.heap s t.midway.places) n.pins in
+    let bare = bare_record s.pass.generation target (ms h.heap s t.places) n.pins in
     let r = whole_record h.heap bare in (
       r,
-      ends h s exact target names_are t strong n r (record { generation = refl; moves_are = refl; pins_are = refl }) refl (record {
-        placed = ap (λ (order : List ℕ). (placement h.heap order).moves) (sym (moves-named h.heap s t.midway.places));
+      ends h s exact target names_are t n r (record { generation = refl; moves_are = refl; pins_are = refl }) refl (record {
+        placed = ap (λ (order : List ℕ). (placement h.heap order).moves) (sym (moves-named h.heap s t.places));
         culls = refl;
         breaks = refl;
         queued = refl;

@@ -23,7 +23,7 @@ use Rattle.copy_space.specs.Moved.{noted}
 use Rattle.copy_space.specs.State.{CopyState}
 use Rattle.copy_space.proofs.Places.{said}
 use Rattle.copy_space.proofs.Referents.{ms, its, met_of, there-of, pinned_unmoved}
-use Rattle.trace_laws.proofs.Counting.{count-same, count-parts, count-listed}
+use Rattle.pass_laws.proofs.Counting.{count-same, count-parts, count-listed}
 use Rattle.trace_laws.proofs.PinNames.{pin_index, NamedPins, pin-listed, names-distinct}
 use Rattle.trace_laws.proofs.Remaining.{HasMovesAndPins}
 

@@ -1,4 +1,3 @@
-pub mod Counting
 pub mod PinNames
 pub mod Remaining
 pub mod Kept

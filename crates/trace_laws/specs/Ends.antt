@@ -15,7 +15,7 @@ use Rattle.copy_space.specs.State.{CopyState}
 use Rattle.trace_laws.specs.Noted.{IsMoveOf, IsPinOf}
 use Rattle.pass_laws.specs.Reached.{HasName}
 use Rattle.trace_laws.specs.Rooted.{Rooted, IsExactRoot}
-use Rattle.trace_laws.specs.Traced.{IsTraced, IsStrongHeap}
+use Rattle.trace_laws.specs.Traced.{IsTraced}
 
 -- A record of a pass with this target that the copier's moves and pins tell. What remains is what is settled, and it has
 -- the words that are so now. The pins and the moves are all that remains of the generation.
@@ -33,4 +33,4 @@ pub record IsEnd (a : NamedHeap) (s : CopyState) (target : ℕ) (r : PassRecord)
 -- tracing always comes to that, where the values of the exact roots have the names that are in exact cells
 abbrev pub TracesEnd : Type 0
 TracesEnd = (h : Rooted) (s : CopyState) (exact : List ℕ) (target : ℕ) → ((name : ℕ) → IsExactRoot h.heap name ↔ HasName h.values name) →
-    IsTraced h s exact → IsStrongHeap h.heap → target ≤ OLDEST_GENERATION → (r : PassRecord) × IsEnd h.heap s target r
+    IsTraced h s exact → target ≤ OLDEST_GENERATION → (r : PassRecord) × IsEnd h.heap s target r

@@ -2,13 +2,13 @@
 use Rattle.std.specs.Prelude.{◌≡◌, ℕ, ◌<◌, List, [], map, All, AllPairs, Some, Bool, true, nat_eq, slice_index_or}
 use Rattle.std.specs.List.{list_any}
 use Rattle.heap_terms.specs.Heap.{NamedHeap, object_at, zero_value}
-use Rattle.heap_terms.specs.Live.{IsClosed, is_live}
+use Rattle.heap_terms.specs.Live.{IsClosed, Keeps, is_live}
 use Rattle.heap_terms.specs.Objects.{Object, Contents, ConsOf, VectorOf, InstanceOf, ClosureOf, WordsOf, WeakTo, TableOf}
 use Rattle.heap_terms.specs.Roots.{is_pinned}
-use Rattle.copy_space.specs.Frames.{IsScanned}
-use Rattle.copy_space.specs.Midway.{Midway}
+use Rattle.copy_space.specs.Midway.{IsPlacedSoFar}
 use Rattle.copy_space.specs.Settled.{is_settled, word_now}
 use Rattle.copy_space.specs.State.{CopyState}
+use Rattle.copy_space.specs.Surviving.{StandsAfter}
 use Rattle.trace_laws.specs.Rooted.{Rooted}
 
 -- a pinned object begins at an index
@@ -29,16 +29,22 @@ pub record ArePinnedStarts (a : NamedHeap) (g : ℕ) (starts : List ℕ) : Type 
 abbrev pub SettlesNoMore : NamedHeap → CopyState → Type 0
 SettlesNoMore a s = (set : ℕ → Bool) → IsClosed a s.pass.generation set → (name : ℕ) → is_settled a s name ≡ true → set name ≡ true
 
--- each settled object is scanned
-abbrev pub AllScanned : NamedHeap → CopyState → Type 0
-AllScanned a s = (name : ℕ) (o : Object) → object_at a.objects name ≡ Some o → is_settled a s name ≡ true → IsScanned a s o
+-- what each settled object keeps is settled
+abbrev pub KeepsAll : NamedHeap → CopyState → Type 0
+KeepsAll a s = (name : ℕ) (o : Object) → object_at a.objects name ≡ Some o → is_settled a s name ≡ true → Keeps (is_settled a s) o.contents
 
--- The pins are the pinned objects. Each settled object is scanned. The exact roots are settled, and have their words after
--- the pass. Nothing is settled that some closed set lacks.
+-- the words of each settled object stand for what survives of it
+abbrev pub AllStand : NamedHeap → CopyState → Type 0
+AllStand a s = (name : ℕ) (o : Object) → object_at a.objects name ≡ Some o → is_settled a s name ≡ true → StandsAfter a s s o
+
+-- The pins are the pinned objects. What each settled object keeps is settled, and nothing is settled that some closed set
+-- lacks. Dead pairs are culled and weak pointers broken: the words of each settled object stand for what survives of it. The
+-- exact roots are settled, and have their words after the pass.
 pub record IsTraced (h : Rooted) (s : CopyState) (exact : List ℕ) : Type 0 where
-  pub midway : Midway h.heap s
+  pub places : IsPlacedSoFar h.heap s
   pub pins : ArePinnedStarts h.heap s.pass.generation s.pins
-  pub scanned : AllScanned h.heap s
+  pub keeps : KeepsAll h.heap s
+  pub stands : AllStand h.heap s
   pub exact_now : exact ≡ map (word_now h.heap s) h.values
   pub exact_live : (i : ℕ) → is_live (is_settled h.heap s) (slice_index_or h.values i zero_value) ≡ true
   pub least : SettlesNoMore h.heap s
@@ -53,7 +59,6 @@ IsStrong (WordsOf ws) = Unit {0}
 IsStrong (WeakTo v) = ⊥
 IsStrong (TableOf w b pairs) = ⊥
 
--- a heap without weak pointers, tables and finalizers
+-- a heap without weak pointers and tables
 pub record IsStrongHeap (a : NamedHeap) : Type 0 where
   pub objects : (name : ℕ) (o : Object) → object_at a.objects name ≡ Some o → IsStrong o.contents
-  pub finalizers : a.finalizers ≡ []

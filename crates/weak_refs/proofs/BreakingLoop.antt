@@ -3,11 +3,12 @@ use Rattle.std.proofs.Common.{◌≡◌, ◌≢◌, ℕ, suc, ◌+◌, ◌<◌, 
 use Rattle.std.specs.Prelude.{AllPairs, slice_index, vec_len, vec_capacity}
 use Rattle.heap_terms.specs.declared.kinds.Kind.TheVariants as kinds
 use Rattle.heap_terms.specs.Heap.{NamedHeap}
+use Rattle.copy_space.specs.CullNotes.{broken_of}
 use Rattle.copy_space.specs.declared.notes.PassNotes.{PassNotes}
 use Rattle.copy_space.specs.Settled.{is_settled}
 use Rattle.copy_space.specs.State.{CopyState}
-use Rattle.weak_refs.specs.Breaking.{CanBreak, CanBreakAt, broken_of}
-use Rattle.weak_refs.specs.Listed.{AreNamed, IsWeakAt}
+use Rattle.weak_refs.specs.Breaking.{CanBreak, CanBreakAt}
+use Rattle.copy_space.specs.WeakNames.{AreNamed, IsWeakAt}
 use Rattle.weak_refs.specs.Rewriting.{AreRewritten, IsWeakStart}
 use Rattle.weak_refs.proofs.Broken.{broken-next, broken-room}
 use Rattle.weak_refs.proofs.Carrying.{start-waits}

@@ -11,12 +11,13 @@ use Rattle.heap_terms.specs.Heap.{NamedHeap, object_at}
 use Rattle.heap_terms.specs.Live.{is_live}
 use Rattle.heap_terms.specs.Objects.{Object, Contents, ConsOf, VectorOf, InstanceOf, ClosureOf, WordsOf, WeakTo, TableOf, kind_of}
 use Rattle.heap_terms.specs.Survival.{breaks, breaks_in}
+use Rattle.copy_space.specs.CullNotes.{broken_of}
 use Rattle.copy_space.specs.declared.notes.PassNotes.{PassNotes}
 use Rattle.copy_space.specs.Midway.{IsPlacedSoFar}
 use Rattle.copy_space.specs.Settled.{is_settled}
 use Rattle.copy_space.specs.State.{CopyState}
-use Rattle.weak_refs.specs.Breaking.{broken_of, HasRoomForBreaks, IsPointerNow}
-use Rattle.weak_refs.specs.Listed.{IsWeakAt, place_before}
+use Rattle.weak_refs.specs.Breaking.{HasRoomForBreaks, IsPointerNow}
+use Rattle.copy_space.specs.WeakNames.{IsWeakAt, place_before}
 use Rattle.weak_refs.proofs.Starts.{same-now}
 
 pub broken-append : (a : NamedHeap) (live : ℕ → Bool) (xs ys : List ℕ) → broken_of a live (xs ++ ys) ≡ broken_of a live xs ++ broken_of a live ys

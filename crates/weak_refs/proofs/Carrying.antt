@@ -19,7 +19,8 @@ use Rattle.copy_space.specs.State.{CopyState}
 use Rattle.copy_space.proofs.Places.{now_apart}
 use Rattle.copy_space.proofs.Referents.{ms, its}
 use Rattle.copy_space.proofs.Shapes.{slot-below}
-use Rattle.weak_refs.specs.Rewriting.{StandsAfter, IsWeakStart, IsIn, IsInSome, IsRewritten, AreRewritten}
+use Rattle.copy_space.specs.Surviving.{StandsAfter}
+use Rattle.weak_refs.specs.Rewriting.{IsWeakStart, IsIn, IsInSome, IsRewritten, AreRewritten}
 
 -- a state with other words
 abbrev pub over : CopyState → List ℕ → CopyState

@@ -19,7 +19,8 @@ use Rattle.copy_space.specs.Settled.{is_settled, word_now}
 use Rattle.copy_space.specs.State.{CopyState}
 use Rattle.copy_space.proofs.Rewriting.{places-written}
 use Rattle.weak_refs.specs.Culling.{ArePairsKept, IsCleared, CanClear, kept_of}
-use Rattle.weak_refs.specs.Rewriting.{StandsAfter, IsRewritten}
+use Rattle.copy_space.specs.Surviving.{StandsAfter}
+use Rattle.weak_refs.specs.Rewriting.{IsRewritten}
 use Rattle.weak_refs.specs.Tables.{TableWords, IsTableNow}
 use Rattle.weak_refs.proofs.Carrying.{over}
 use Rattle.weak_refs.proofs.Pairs.{kept-most}

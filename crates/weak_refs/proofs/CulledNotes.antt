@@ -12,13 +12,14 @@ use Rattle.heap_terms.specs.Heap.{NamedHeap, object_at}
 use Rattle.heap_terms.specs.Live.{Keeps}
 use Rattle.heap_terms.specs.Objects.{Object, Contents, ConsOf, VectorOf, InstanceOf, ClosureOf, WordsOf, WeakTo, TableOf, kind_of}
 use Rattle.heap_terms.specs.Survival.{is_kept, culled_from, culls_in}
+use Rattle.copy_space.specs.CullNotes.{culled_of, noted_cull}
 use Rattle.copy_space.specs.declared.notes.CullNote.{CullNote}
 use Rattle.copy_space.specs.declared.notes.PassNotes.{PassNotes}
 use Rattle.copy_space.specs.Midway.{IsPlacedSoFar}
 use Rattle.copy_space.specs.Settled.{is_settled}
 use Rattle.copy_space.specs.State.{CopyState}
-use Rattle.weak_refs.specs.Culling.{CanCull, CanCullAt, culled_of, noted_cull, note_of, notes_of}
-use Rattle.weak_refs.specs.Listed.{AreNamed, IsWeakAt, place_before, place_of}
+use Rattle.weak_refs.specs.Culling.{CanCull, CanCullAt, note_of, notes_of}
+use Rattle.copy_space.specs.WeakNames.{AreNamed, IsWeakAt, place_before, place_of}
 use Rattle.weak_refs.specs.Rewriting.{AreRewritten, IsWeakStart}
 use Rattle.weak_refs.specs.Tables.{IsTableNow}
 use Rattle.weak_refs.proofs.BreakingLoop.{weak-over}

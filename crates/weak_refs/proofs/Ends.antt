@@ -15,6 +15,7 @@ use Rattle.heap_terms.specs.Survival.{surviving}
 use Rattle.pass_laws.proofs.AfterPages.{surviving-kind, surviving-payload}
 use Rattle.pass_laws.proofs.AfterPass.{IsShaped-surviving}
 use Rattle.pass_laws.proofs.Sizes.{words_least}
+use Rattle.copy_space.specs.CullNotes.{broken_of}
 use Rattle.copy_space.specs.declared.notes.PassNotes.{PassNotes}
 use Rattle.copy_space.specs.Midway.{IsPlacedSoFar, Midway}
 use Rattle.copy_space.specs.Moved.{new_of, objects_now}
@@ -23,9 +24,10 @@ use Rattle.copy_space.specs.State.{CopyState}
 use Rattle.copy_space.proofs.Places.{now_apart}
 use Rattle.copy_space.proofs.Referents.{ms, its}
 use Rattle.copy_space.proofs.Shapes.{header_leads, slot-below}
-use Rattle.weak_refs.specs.Breaking.{CanBreak, HasRoomForBreaks, broken_of}
-use Rattle.weak_refs.specs.Listed.{AreNamed, IsWeakAt}
-use Rattle.weak_refs.specs.Rewriting.{StandsAfter, IsWeakStart, IsInSome, AreRewritten}
+use Rattle.weak_refs.specs.Breaking.{CanBreak, HasRoomForBreaks}
+use Rattle.copy_space.specs.WeakNames.{AreNamed, IsWeakAt}
+use Rattle.copy_space.specs.Surviving.{StandsAfter}
+use Rattle.weak_refs.specs.Rewriting.{IsWeakStart, IsInSome, AreRewritten}
 use Rattle.weak_refs.proofs.BreakingLoop.{weak-over}
 use Rattle.weak_refs.proofs.Carrying.{over, after-same, slot-over}
 use Rattle.weak_refs.proofs.Midways.{weak-header}

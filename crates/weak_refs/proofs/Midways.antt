@@ -8,6 +8,7 @@ use Rattle.heap_terms.specs.Heap.{NamedHeap}
 use Rattle.heap_terms.specs.Layout.{header_of}
 use Rattle.heap_terms.specs.Objects.{Object, kind_of, payload_of}
 use Rattle.heap_terms.specs.Slots.{Raw}
+use Rattle.copy_space.specs.CullNotes.{broken_of, culled_of}
 use Rattle.copy_space.specs.declared.notes.PassNotes.{PassNotes}
 use Rattle.copy_space.specs.Midway.{Midway}
 use Rattle.copy_space.specs.Moved.{new_of}
@@ -15,9 +16,9 @@ use Rattle.copy_space.specs.Settled.{is_settled}
 use Rattle.copy_space.specs.State.{CopyState}
 use Rattle.copy_space.proofs.FrameLaws.{settled-stays}
 use Rattle.copy_space.proofs.Shapes.{header_leads}
-use Rattle.weak_refs.specs.Breaking.{CanBreak, HasRoomForBreaks, broken_of}
-use Rattle.weak_refs.specs.Culling.{CanCull, HasRoomForCulls, culled_of}
-use Rattle.weak_refs.specs.Listed.{AreNamed, IsWeakAt}
+use Rattle.weak_refs.specs.Breaking.{CanBreak, HasRoomForBreaks}
+use Rattle.weak_refs.specs.Culling.{CanCull, HasRoomForCulls}
+use Rattle.copy_space.specs.WeakNames.{AreNamed, IsWeakAt}
 use Rattle.weak_refs.specs.Readying.{Readies, AreReady}
 use Rattle.weak_refs.specs.Rewriting.{AreWeakStarts, IsWeakStart}
 

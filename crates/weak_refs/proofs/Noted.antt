@@ -10,9 +10,8 @@ use Rattle.heap_terms.specs.Living.{IsShaped}
 use Rattle.heap_terms.specs.Objects.{Object, Contents, ConsOf, VectorOf, InstanceOf, ClosureOf, WordsOf, WeakTo, TableOf}
 use Rattle.heap_terms.specs.Sound.{IsSound}
 use Rattle.heap_terms.specs.Survival.{is_kept, culled_from, culls_in, breaks_in}
-use Rattle.weak_refs.specs.Breaking.{broken_of}
-use Rattle.weak_refs.specs.Culling.{culled_of, noted_cull}
-use Rattle.weak_refs.specs.Listed.{place_before}
+use Rattle.copy_space.specs.CullNotes.{broken_of, culled_of, noted_cull}
+use Rattle.copy_space.specs.WeakNames.{place_before}
 
 filter-most : {X : Type 0} (p : X → Bool) (xs : List X) → length (filter p xs) ≤ length xs
 filter-most p [] = omega arith

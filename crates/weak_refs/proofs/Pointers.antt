@@ -29,8 +29,9 @@ use Rattle.copy_space.proofs.Referents.{ms, its}
 use Rattle.copy_space.proofs.Rewriting.{written, places-written}
 use Rattle.copy_space.proofs.Shapes.{payload-most}
 use Rattle.weak_refs.specs.Breaking.{IsPointerNow, IsPointerLeft, word_left}
-use Rattle.weak_refs.specs.Listed.{IsWeakAt}
-use Rattle.weak_refs.specs.Rewriting.{StandsAfter, IsWeakStart, IsRewritten}
+use Rattle.copy_space.specs.WeakNames.{IsWeakAt}
+use Rattle.copy_space.specs.Surviving.{StandsAfter}
+use Rattle.weak_refs.specs.Rewriting.{IsWeakStart, IsRewritten}
 use Rattle.weak_refs.proofs.Starts.{same-object}
 
 -- contents of a kind

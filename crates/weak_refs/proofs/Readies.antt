@@ -1,5 +1,6 @@
 -- Frames of readying: from one state over another to a third; where no move was added the same is settled.
-use Rattle.std.proofs.Common.{◌≡◌, ℕ, ◌≤◌, length, Bool, true, inl, inr, refl, sym, ap, subst, arith, length-append}
+use Rattle.std.proofs.Common.{◌≡◌, ℕ, ◌≤◌, List, length, Bool, true, inl, inr, refl, sym, ap, subst, arith, length-append}
+use Rattle.std.specs.Prelude.{slice_index}
 use Rattle.heap_terms.specs.declared.cells.Value.{Value}
 use Rattle.heap_terms.specs.declared.cells.Value.TheVariants.{Fix, Nil, Unbound, Ref}
 use Rattle.heap_terms.specs.declared.kinds.Weakness.{Weakness}
@@ -7,14 +8,15 @@ use Rattle.heap_terms.specs.declared.kinds.Weakness.TheVariants as weaknesses
 use Rattle.heap_terms.specs.Heap.{NamedHeap}
 use Rattle.heap_terms.specs.Live.{is_live, IsClosed, KeepsSides}
 use Rattle.copy_space.specs.declared.notes.Pass.{Pass}
-use Rattle.copy_space.specs.Copying.{Evacuates}
+use Rattle.copy_space.specs.Copying.{CanLookUp, Evacuates}
 use Rattle.copy_space.specs.Frames.{Grows}
 use Rattle.copy_space.specs.Midway.{Midway}
 use Rattle.copy_space.specs.Settled.{is_settled}
 use Rattle.copy_space.specs.State.{CopyState}
 use Rattle.copy_space.proofs.FrameLaws.{Goes-same, Goes-on, settled-stays, word-of-stays}
 use Rattle.copy_space.proofs.Listed.{same-settled}
-use Rattle.weak_refs.specs.Readying.{Readies, HasSameMoves, IsHeld, IsHeldWith, AreHeldBy, CanSettleSide, CanFollow, CanReadyPair}
+use Rattle.scavenge.proofs.NotedStarts.{weak-later}
+use Rattle.weak_refs.specs.Readying.{CanReady, Readies, HasSameMoves, IsHeld, IsHeldWith, AreHeldBy, CanSettleSide, CanFollow, CanReadyPair}
 
 pub readies-same : (a : NamedHeap) (s : CopyState) → Midway a s → Readies a s s
 readies-same a s h = record { midway = h; goes = Goes-same a s; within = λ set closed has name settled. has name settled }
@@ -124,3 +126,29 @@ module _ (a : NamedHeap) (s : CopyState) (w : Weakness) (key value : ℕ) (can :
 -- what is ready by a weakness that is known
 pub ready-as : (w known : Weakness) (k v : Bool) → w ≡ known → KeepsSides known k v → KeepsSides w k v
 ready-as w known k v is h = subst (λ (x : Weakness). KeepsSides x k v) (sym is) h
+
+-- the sides of a pair are its sides after more was settled
+pub pair-later : (a : NamedHeap) (s t : CopyState) (w : Weakness) (key value : ℕ) → Readies a s t → CanReadyPair a s w key value → CanReadyPair a t w key value
+pair-later a s t w key value h can = record {
+  midway = h.midway;
+  u = can.u;
+  v = can.v;
+  key_is = word-of-stays a s t h.goes.grows can.u key can.key_is;
+  value_is = word-of-stays a s t h.goes.grows can.v value can.value_is;
+  held = held-by-stays a s t h w can.u can.v can.held;
+}
+
+-- and can be looked up
+pub key-looked : (a : NamedHeap) (s : CopyState) (w : Weakness) (key value : ℕ) → CanReadyPair a s w key value → CanLookUp a s key
+key-looked a s w key value can = record { places = can.midway.places; value = can.u; is_word = can.key_is }
+
+pub value-looked : (a : NamedHeap) (s : CopyState) (w : Weakness) (key value : ℕ) → CanReadyPair a s w key value → CanLookUp a s value
+value-looked a s w key value can = record { places = can.midway.places; value = can.v; is_word = can.value_is }
+
+-- what can be readied can be later
+pub ready-later : (a : NamedHeap) (s t : CopyState) (starts : List ℕ) → Readies a s t → CanReady a s starts → CanReady a t starts
+ready-later a s t starts h can = record {
+  midway = h.midway;
+  names = can.names;
+  named = record { long = can.named.long; each = λ k l. weak-later a s t h.goes.grows (slice_index can.names k) (slice_index starts k) (can.named.each k l) };
+}

@@ -14,7 +14,7 @@ use Rattle.copy_space.specs.Midway.{Midway}
 use Rattle.copy_space.specs.Settled.{is_settled, IsWordOf}
 use Rattle.copy_space.specs.State.{CopyState}
 use Rattle.copy_space.proofs.FrameLaws.{settled-stays, word-of-stays}
-use Rattle.weak_refs.specs.Listed.{IsWeakAt}
+use Rattle.copy_space.specs.WeakNames.{IsWeakAt}
 use Rattle.weak_refs.specs.Readying.{Readies, HasSameMoves, CanReadyPair, IsReadyAt, AreReady}
 use Rattle.weak_refs.specs.Tables.{IsTableNow, pair_at}
 use Rattle.weak_refs.proofs.Pointers.{pointer_contents}

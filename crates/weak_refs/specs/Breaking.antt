@@ -6,19 +6,15 @@ use Rattle.heap_terms.specs.Heap.{NamedHeap, object_at}
 use Rattle.heap_terms.specs.Layout.{header_of, unbound_word}
 use Rattle.heap_terms.specs.Live.{is_live}
 use Rattle.heap_terms.specs.Objects.{Object, WeakTo}
-use Rattle.heap_terms.specs.Survival.{breaks_in}
 use Rattle.copy_space.specs.declared.notes.PassNotes.{PassNotes}
 use Rattle.copy_space.specs.Midway.{IsPlacedSoFar}
 use Rattle.copy_space.specs.Moved.{new_of}
 use Rattle.copy_space.specs.Notes.{SameRest}
 use Rattle.copy_space.specs.Settled.{is_settled, word_before, word_now}
 use Rattle.copy_space.specs.State.{CopyState}
-use Rattle.weak_refs.specs.Listed.{AreNamed, place_before}
+use Rattle.copy_space.specs.CullNotes.{broken_of}
+use Rattle.copy_space.specs.WeakNames.{AreNamed}
 use Rattle.weak_refs.specs.Rewriting.{AreWeakStarts, IsWeakStart}
-
--- where the weak pointers of some names were before the pass that become broken
-abbrev pub broken_of : NamedHeap → (ℕ → Bool) → List ℕ → List ℕ
-broken_of a live names = map (place_before a) (filter (λ name. breaks_in live name (object_at a.objects name)) names)
 
 -- the notes have room for some more breaks
 abbrev pub HasRoomForBreaks : PassNotes → List ℕ → Type 0

@@ -17,17 +17,10 @@ use Rattle.copy_space.specs.Moved.{new_of}
 use Rattle.copy_space.specs.Notes.{SameRest}
 use Rattle.copy_space.specs.Settled.{is_settled, word_before, word_now, IsWordOf}
 use Rattle.copy_space.specs.State.{CopyState}
-use Rattle.weak_refs.specs.Listed.{AreNamed, place_before}
+use Rattle.copy_space.specs.CullNotes.{culled_of}
+use Rattle.copy_space.specs.WeakNames.{AreNamed}
 use Rattle.weak_refs.specs.Rewriting.{AreWeakStarts, IsWeakStart}
 use Rattle.weak_refs.specs.Tables.{IsTableNow, pair_at}
-
--- the note of a culled pair: where its table was before the pass, and the words of its sides before the pass
-abbrev pub noted_cull : NamedHeap → Cull → CullNote
-noted_cull a c = record { table = place_before a c.table; key = word_before a c.key; value = word_before a c.value }
-
--- the notes of the pairs that are culled from the tables of some names, table by table, in the order of the pairs
-abbrev pub culled_of : NamedHeap → (ℕ → Bool) → List ℕ → List CullNote
-culled_of a live names = map (noted_cull a) (flat_map (λ name. culls_in live name (object_at a.objects name)) names)
 
 -- the notes have room for some more culls
 abbrev pub HasRoomForCulls : PassNotes → List CullNote → Type 0

@@ -11,7 +11,7 @@ use Rattle.copy_space.specs.Moved.{new_of}
 use Rattle.copy_space.specs.Settled.{is_settled, IsWordOf}
 use Rattle.copy_space.specs.State.{CopyState}
 use Rattle.scavenge.specs.Scanning.{SettlesWithin}
-use Rattle.weak_refs.specs.Listed.{AreNamed, IsWeakAt}
+use Rattle.copy_space.specs.WeakNames.{AreNamed, IsWeakAt}
 use Rattle.weak_refs.specs.Tables.{IsTableNow}
 
 -- the state is midway again, no word of what was settled has changed, and every closed set that has what was settled has

@@ -4,24 +4,19 @@ use Rattle.heap_terms.specs.declared.kinds.Kind.{Kind}
 use Rattle.heap_terms.specs.Heap.{NamedHeap, object_at}
 use Rattle.heap_terms.specs.Layout.{header_of}
 use Rattle.heap_terms.specs.Objects.{Object, kind_of, payload_of, words_of_object}
-use Rattle.heap_terms.specs.Stands.{SlotsStand, KeptStand}
-use Rattle.heap_terms.specs.Survival.{surviving}
+use Rattle.heap_terms.specs.Stands.{KeptStand}
 use Rattle.copy_space.specs.declared.copier.Copier.{Copier}
 use Rattle.copy_space.specs.Midway.{IsPlacedSoFar, SlotsMidway}
-use Rattle.copy_space.specs.Moved.{new_of, objects_now}
+use Rattle.copy_space.specs.Moved.{new_of}
 use Rattle.copy_space.specs.Settled.{is_settled}
 use Rattle.copy_space.specs.State.{CopyState}
-use Rattle.weak_refs.specs.Listed.{IsWeakAt}
+use Rattle.copy_space.specs.Surviving.{StandsAfter}
+use Rattle.copy_space.specs.WeakNames.{IsWeakAt}
 
 -- the words of a settled object, as they were left by the moves of the pass
 pub record StandsAsLeft (a : NamedHeap) (s : CopyState) (o : Object) : Type 0 where
   pub slots : SlotsMidway a s (new_of s.moves o.place) o.contents
   pub kept : KeptStand s.words (new_of s.moves o.place) o.contents
-
--- the words of a settled object stand for what survives of it, all places being those after the pass
-pub record StandsAfter (a : NamedHeap) (s t : CopyState) (o : Object) : Type 0 where
-  pub slots : SlotsStand (objects_now a s.moves) t.words (new_of s.moves o.place) (surviving (is_settled a s) o.contents)
-  pub kept : KeptStand t.words (new_of s.moves o.place) (surviving (is_settled a s) o.contents)
 
 -- the name of a weak pointer or table at a start; its first word is its header, and one of a kind stands as the moves left it
 pub record IsWeakStart (a : NamedHeap) (s : CopyState) (kind : Kind) (start : ℕ) : Type 0 where

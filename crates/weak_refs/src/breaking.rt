@@ -3,10 +3,11 @@
 ghost use Rattle.std.specs.Prelude.{◌≡◌, ◌++◌, ℕ, List, ◌∷◌, [], length, vec_capacity};
 ghost use Rattle.heap_terms.specs.Heap.{NamedHeap};
 ghost use Rattle.heap_terms.specs.declared.kinds.Kind.{Kind};
+ghost use Rattle.copy_space.specs.CullNotes.{broken_of};
 ghost use Rattle.copy_space.specs.Settled.{is_settled};
 ghost use Rattle.copy_space.specs.State.{state};
-ghost use Rattle.weak_refs.specs.Breaking.{CanBreak, CanBreakAt, CanBreakPointer, IsPointerNow, IsPointerLeft, SameButBroken, broken_of};
-ghost use Rattle.weak_refs.specs.Listed.{AreNamed, IsWeakAt};
+ghost use Rattle.weak_refs.specs.Breaking.{CanBreak, CanBreakAt, CanBreakPointer, IsPointerNow, IsPointerLeft, SameButBroken};
+ghost use Rattle.copy_space.specs.WeakNames.{AreNamed, IsWeakAt};
 ghost use Rattle.weak_refs.specs.Rewriting.{AreRewritten, IsRewritten, HasSameParts};
 
 use crate::places::{kind_at, place_before};

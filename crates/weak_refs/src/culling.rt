@@ -4,10 +4,11 @@ ghost use Rattle.std.specs.Prelude.{◌≡◌, ◌++◌, ℕ, List, ◌∷◌, [
 ghost use Rattle.heap_terms.specs.Heap.{NamedHeap};
 ghost use Rattle.heap_terms.specs.declared.cells.Value.{Value};
 ghost use Rattle.heap_terms.specs.declared.kinds.Kind.{Kind};
+ghost use Rattle.copy_space.specs.CullNotes.{culled_of};
 ghost use Rattle.copy_space.specs.Settled.{is_settled, IsWordOf};
 ghost use Rattle.copy_space.specs.State.{state};
-ghost use Rattle.weak_refs.specs.Culling.{CanCull, CanCullAt, CanCullTable, CanKeepPairs, CanKeepPair, CanClear, ArePairsKept, AreCullsNoted, IsPairKept, IsCleared, SameButCulled, culled_of};
-ghost use Rattle.weak_refs.specs.Listed.{AreNamed, IsWeakAt};
+ghost use Rattle.weak_refs.specs.Culling.{CanCull, CanCullAt, CanCullTable, CanKeepPairs, CanKeepPair, CanClear, ArePairsKept, AreCullsNoted, IsPairKept, IsCleared, SameButCulled};
+ghost use Rattle.copy_space.specs.WeakNames.{AreNamed, IsWeakAt};
 ghost use Rattle.weak_refs.specs.Rewriting.{AreRewritten, IsRewritten, HasSameParts};
 ghost use Rattle.weak_refs.specs.Tables.{IsTableNow};
 

@@ -6,10 +6,13 @@ mod breaking;
 mod culling;
 mod places;
 mod readying;
+mod releasing;
 mod tables;
 #[cfg(test)]
 mod tests;
+mod waiting;
 
 pub use breaking::break_dead;
 pub use culling::cull;
 pub use readying::ready_entries;
+pub use waiting::Waiting;

@@ -6,24 +6,28 @@ ghost use Rattle.heap_terms.specs.Layout.{weakness_number};
 ghost use Rattle.heap_terms.specs.Live.{is_live, KeepsSides};
 ghost use Rattle.heap_terms.specs.declared.cells.Value.{Value};
 ghost use Rattle.heap_terms.specs.declared.kinds.Weakness.{Weakness};
+ghost use Rattle.copy_space.specs.Copying.{CanLookUp};
 ghost use Rattle.copy_space.specs.Settled.{is_settled, IsWordOf};
 ghost use Rattle.copy_space.specs.State.{state};
 ghost use Rattle.scavenge.specs.Fields.{IsSameCopier};
 ghost use Rattle.weak_refs.specs.Readying.{AreReady, CanFollow, CanReady, CanReadyAt, CanReadyPair, CanReadyTable, CanSettleSide, HasSameMoves, IsReadyAt, Readies};
 
 use crate::places::kind_at;
+use crate::releasing::release;
 use crate::tables::{PAIRS, WEAKNESS, pair_count};
+use crate::waiting::{SIDES, Waiting};
 use copy_space::Copier;
 use heap_terms::{Kind, Weakness};
+use lisp_words::untag;
 use pin_set::PinSet;
 
 /// Settles the sides that the weakness of a table keeps: both of a strong table, the value of a
 /// table by key where the key is settled, the key of one by value where the value is, and each side
 /// of one by key or value where the other is. A side that is no reference counts as settled. The
 /// answer says whether something was settled; where it is false, each pair of each table has what
-/// its weakness keeps. `weak` has the starts at which settled weak pointers and tables stand now. It
-/// takes no memory.
-pub fn ready_entries(weak: &PinSet, copier: &mut Copier) -> bool
+/// its weakness keeps. `weak` has the starts at which settled weak pointers and tables stand now, and
+/// `waiting` was begun in this pass. It takes no memory.
+pub fn ready_entries(weak: &PinSet, copier: &mut Copier, waiting: &mut Waiting) -> bool
     ghost a: { NamedHeap }
     requires { CanReady a (state copier.old) weak.now.listed }
     ensures readies { Readies a (state copier.old) (state copier.new) }
@@ -33,25 +37,55 @@ pub fn ready_entries(weak: &PinSet, copier: &mut Copier) -> bool
     ensures same { IsSameCopier copier.old copier.new }
 {
     let before = copier.notes().moves.len();
-    ready_all(weak, copier);
+    ready_waiting(weak, copier, waiting);
+    if copier.notes().moves.len() > before {
+        return true;
+    }
+    ready_all(weak, copier, waiting, 0, Look::Forget);
     copier.notes().moves.len() > before
 }
 
-/// Goes through all tables.
-fn ready_all(weak: &PinSet, copier: &mut Copier)
+/// What is done with a side that is not settled after its pair was looked at.
+#[derive(Clone, Copy)]
+enum Look {
+    /// It waits for its object.
+    Wait,
+    /// Nothing waits for its object any more.
+    Forget,
+}
+
+/// Goes through the tables that were listed since the last time, and through the pairs that wait for
+/// what was moved since then.
+fn ready_waiting(weak: &PinSet, copier: &mut Copier, waiting: &mut Waiting)
     ghost a: { NamedHeap }
     requires { CanReady a (state copier.old) weak.now.listed }
     ensures readies { Readies a (state copier.old) (state copier.new) }
-    ensures ready { HasSameMoves (state copier.old) (state copier.new) → AreReady a (state copier.new) weak.now.listed (length weak.now.listed) }
     ensures same { IsSameCopier copier.old copier.new }
 {
-    for i in 0..weak.len() {
-        ready_at(copier, weak.at(i));
+    let met = waiting.met;
+    waiting.met = weak.len();
+    ready_all(weak, copier, waiting, met, Look::Wait);
+    if waiting.any {
+        release(weak, copier, waiting);
     }
 }
 
-/// Goes through the pairs of what stands at a start, if it is a table.
-fn ready_at(copier: &mut Copier, start: u32)
+/// Goes through all tables from a number on.
+fn ready_all(weak: &PinSet, copier: &mut Copier, waiting: &mut Waiting, from: u32, look: Look)
+    ghost a: { NamedHeap }
+    requires { CanReady a (state copier.old) weak.now.listed }
+    ensures readies { Readies a (state copier.old) (state copier.new) }
+    ensures ready { from ≡ 0 → HasSameMoves (state copier.old) (state copier.new) → AreReady a (state copier.new) weak.now.listed (length weak.now.listed) }
+    ensures same { IsSameCopier copier.old copier.new }
+{
+    for i in from..weak.len() {
+        ready_at(copier, waiting, look, weak.at(i), i);
+    }
+}
+
+/// Goes through the pairs of what stands at a start, if it is a table; this is the number of the
+/// start.
+fn ready_at(copier: &mut Copier, waiting: &mut Waiting, look: Look, start: u32, number: u32)
     ghost a: { NamedHeap }
     requires { CanReadyAt a (state copier.old) start }
     ensures readies { Readies a (state copier.old) (state copier.new) }
@@ -59,13 +93,13 @@ fn ready_at(copier: &mut Copier, start: u32)
     ensures same { IsSameCopier copier.old copier.new }
 {
     match kind_at(copier.space(), start) {
-        Kind::Table => ready_table(copier, start),
+        Kind::Table => ready_table(copier, waiting, look, start, number),
         _ => {}
     }
 }
 
 /// Goes through the pairs of the table at a start.
-fn ready_table(copier: &mut Copier, start: u32)
+fn ready_table(copier: &mut Copier, waiting: &mut Waiting, look: Look, start: u32, number: u32)
     ghost a: { NamedHeap }
     requires { CanReadyTable a (state copier.old) start }
     ensures readies { Readies a (state copier.old) (state copier.new) }
@@ -78,11 +112,55 @@ fn ready_table(copier: &mut Copier, start: u32)
         let key = copier.space().read(start + PAIRS + 2 * pair);
         let value = copier.space().read(start + PAIRS + 2 * pair + 1);
         ready_pair(copier, weakness, key, value);
+        let side = number.saturating_mul(SIDES).saturating_add(2 * pair);
+        note_pair(copier, waiting, look, weakness, key, value, side);
+    }
+}
+
+/// Lets the sides of a pair wait that hang on what is not settled, or forgets them.
+fn note_pair(
+    copier: &Copier,
+    waiting: &mut Waiting,
+    look: Look,
+    weakness: Weakness,
+    key: u64,
+    value: u64,
+    side: u32,
+)
+    ghost a: { NamedHeap }
+    requires { CanReadyPair a (state copier.now) weakness key value }
+{
+    match weakness {
+        Weakness::Strong | Weakness::KeyAndValue => {}
+        Weakness::Key => note_side(copier, waiting, look, key, side),
+        Weakness::Value => note_side(copier, waiting, look, value, side),
+        Weakness::KeyOrValue => {
+            note_side(copier, waiting, look, key, side);
+            note_side(copier, waiting, look, value, side.saturating_add(1));
+        }
+    }
+}
+
+/// Lets a side wait for the object of a word, or forgets what waits for it, if that is not settled.
+fn note_side(copier: &Copier, waiting: &mut Waiting, look: Look, word: u64, side: u32)
+    ghost a: { NamedHeap }
+    requires { CanLookUp a (state copier.now) word }
+{
+    if copier.is_placed(word) {
+        return;
+    }
+    if let Some((index, _)) = untag(word) {
+        match look {
+            Look::Wait => waiting.wait(index, side),
+            Look::Forget => {
+                waiting.take(index);
+            }
+        }
     }
 }
 
 /// The weakness of a table, from the word that stands for it.
-fn weakness_from(word: u64) -> Weakness
+pub(crate) fn weakness_from(word: u64) -> Weakness
     ensures { (w : Weakness) → word ≡ 2 * weakness_number w → result ≡ w }
 {
     match word {
@@ -95,7 +173,7 @@ fn weakness_from(word: u64) -> Weakness
 }
 
 /// Settles of a pair, given by the words of key and value, what a weakness keeps.
-fn ready_pair(copier: &mut Copier, weakness: Weakness, key: u64, value: u64)
+pub(crate) fn ready_pair(copier: &mut Copier, weakness: Weakness, key: u64, value: u64)
     ghost a: { NamedHeap }
     requires { CanReadyPair a (state copier.old) weakness key value }
     ensures readies { Readies a (state copier.old) (state copier.new) }

@@ -5,7 +5,7 @@ ghost use Rattle.std.specs.Prelude.{◌≡◌, ◌≤◌, [], vec_len, vec_capac
 ghost use Rattle.heap_terms.specs.Heap.{NamedHeap};
 ghost use Rattle.copy_space.specs.Copying.{CanBegin};
 
-use crate::{break_dead, cull, ready_entries};
+use crate::{Waiting, break_dead, cull, ready_entries};
 use copy_space::{Copier, Marks, Pass, PassNotes};
 use page_table::PageTable;
 use pin_set::PinSet;
@@ -20,6 +20,7 @@ fn finish(
     pins: &PinSet,
     weak: &PinSet,
     notes: &mut PassNotes,
+    waiting: &mut Waiting,
 ) -> bool
     ghost a: { NamedHeap }
     requires begins { CanBegin a space.old pages.old marks.old pins.now.listed 0 (vec_capacity notes.old.moves) }
@@ -33,7 +34,7 @@ fn finish(
         raise: false,
     };
     let mut copier = Copier::new(space, pages, marks, pins, pass, notes);
-    let settled = ready_entries(weak, &mut copier);
+    let settled = ready_entries(weak, &mut copier, waiting);
     cull(weak, &mut copier);
     break_dead(weak, &mut copier);
     settled
@@ -59,7 +60,16 @@ fn nothing_is_culled_where_nothing_was_noted(rt: HostRuntime) -> Result<(), Fail
         dead: 0,
         kept: 0,
     };
-    let settled = finish(&mut space, &mut pages, &mut marks, &pins, &weak, &mut notes);
+    let mut waiting = Waiting::new(alloc, 1, 1)?;
+    let settled = finish(
+        &mut space,
+        &mut pages,
+        &mut marks,
+        &pins,
+        &weak,
+        &mut notes,
+        &mut waiting,
+    );
     assert!(rt; !settled);
     assert_eq!(rt; notes.culls.len() + notes.breaks.len(), 0);
     Ok(())

@@ -1,6 +1,6 @@
 //! Long lists that begin as one element repeated.
 
-ghost use Rattle.std.specs.Prelude.{◌≡◌, ◌+◌, ◌-◌, ◌<◌, ◌≤◌, ◌++◌, ◌⊎◌, length, replicate, slice_index_or, slice_set, vec_capacity, IfOk};
+ghost use Rattle.std.specs.Prelude.{◌≡◌, ◌+◌, ◌-◌, ◌<◌, ◌≤◌, ◌++◌, ◌⊎◌, length, replicate, slice_index_or, slice_set, take, drop, vec_capacity, IfOk, IfSome};
 ghost use Rattle.word_space.specs.Space.{copied, written};
 
 use heap_terms::Memory;
@@ -82,6 +82,7 @@ impl<T: Copy> Prefilled<T> {
     }
 
     /// The element at `i`.
+    #[inline(always)]
     pub fn at(&self, i: usize) -> T
         requires { i < length self.now }
         ensures { result ≡ slice_index_or self.now i result }
@@ -93,8 +94,61 @@ impl<T: Copy> Prefilled<T> {
         }
     }
 
+    /// The two elements at `i` and behind it.
+    #[inline(always)]
+    pub fn pair(&self, i: usize) -> (T, T)
+        requires { i + 1 < length self.now }
+        ensures first { result.0 ≡ slice_index_or self.now i result.0 }
+        ensures second { result.1 ≡ slice_index_or self.now (i + 1) result.1 }
+    {
+        prove!(i < self.len());
+        if i + 1 < self.kept.len() {
+            (self.kept[i], self.kept[i + 1])
+        } else {
+            (self.at(i), self.at(i + 1))
+        }
+    }
+
+    /// So many elements from `from` on, where all of them are filled in.
+    pub fn window(&self, from: usize, count: usize) -> Option<&[T]>
+        ensures { IfSome result (λ part. part.now ≡ take count (drop from self.now)) }
+    {
+        self.kept.get(from..from.saturating_add(count))
+    }
+
+    /// Writes the elements at `i` and behind it. It takes no memory.
+    #[inline(always)]
+    pub fn set_pair(&mut self, i: usize, first: T, second: T)
+        requires { i + 1 < length self.old }
+        ensures { self.new ≡ slice_set (slice_set self.old i first) (i + 1) second }
+    {
+        prove!(i < self.len());
+        if i + 1 < self.kept.len() {
+            self.kept[i] = first;
+            self.kept[i + 1] = second;
+        } else {
+            self.set_beyond(i, first);
+            self.set_beyond(i + 1, second);
+        }
+    }
+
     /// Writes the element at `i`. It takes no memory.
+    #[inline(always)]
     pub fn set(&mut self, i: usize, value: T)
+        requires { i < length self.old }
+        ensures { self.new ≡ slice_set self.old i value }
+    {
+        if i < self.kept.len() {
+            self.kept[i] = value;
+        } else {
+            self.set_beyond(i, value);
+        }
+    }
+
+    /// The same of an element that may lie behind those that are filled in.
+    #[cold]
+    #[inline(never)]
+    fn set_beyond(&mut self, i: usize, value: T)
         requires { i < length self.old }
         ensures { self.new ≡ slice_set self.old i value }
     {

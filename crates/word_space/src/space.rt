@@ -1,6 +1,6 @@
 //! The space of words.
 
-ghost use Rattle.std.specs.Prelude.{◌≡◌, ◌+◌, ◌*◌, ◌<◌, ◌≤◌, ◌⊎◌, length, replicate, slice_index, slice_set, IfOk};
+ghost use Rattle.std.specs.Prelude.{◌≡◌, ◌+◌, ◌*◌, ◌<◌, ◌≤◌, ◌⊎◌, length, replicate, slice_index, slice_set, take, drop, IfOk, IfSome};
 ghost use Rattle.heap_terms.specs.declared.limits.TheConstants.{MOST_PAGES};
 ghost use Rattle.heap_terms.specs.Layout.{page_words};
 ghost use Rattle.word_space.specs.Space.{copied, written};
@@ -49,6 +49,7 @@ impl Space {
     }
 
     /// The word at an index.
+    #[inline(always)]
     pub fn read(&self, index: u32) -> u64
         requires { index < length self.now }
         ensures { result ≡ slice_index self.now index }
@@ -56,7 +57,35 @@ impl Space {
         self.words.at(index as usize)
     }
 
+    /// The two words at an index and behind it.
+    #[inline(always)]
+    pub fn read_pair(&self, index: u32) -> (u64, u64)
+        requires { index + 1 < length self.now }
+        ensures first { result.0 ≡ slice_index self.now index }
+        ensures second { result.1 ≡ slice_index self.now (index + 1) }
+    {
+        self.words.pair(index as usize)
+    }
+
+    /// So many words from an index on, where they have been written to or lie before words that have;
+    /// else there may be none.
+    pub fn window(&self, from: u32, count: u32) -> Option<&[u64]>
+        ensures { IfSome result (λ part. part.now ≡ take count (drop from self.now)) }
+    {
+        self.words.window(from as usize, count as usize)
+    }
+
+    /// Writes the words at an index and behind it. Every other word stays.
+    #[inline(always)]
+    pub fn write_pair(&mut self, index: u32, first: u64, second: u64)
+        requires { index + 1 < length self.old }
+        ensures { self.new ≡ slice_set (slice_set self.old index first) (index + 1) second }
+    {
+        self.words.set_pair(index as usize, first, second);
+    }
+
     /// Writes the word at an index. Every other word stays.
+    #[inline(always)]
     pub fn write(&mut self, index: u32, word: u64)
         requires { index < length self.old }
         ensures { self.new ≡ slice_set self.old index word }

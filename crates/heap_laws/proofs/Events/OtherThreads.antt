@@ -28,7 +28,7 @@ use Rattle.heap_laws.proofs.WellFormed.RegionOpened.{run_cases, open_run_taken, 
 use Rattle.heap_laws.proofs.WellFormed.Committed.{HasPage, has_page, pages_small, large_run, goes_into, pages_large, new_object, initial_kind, initial_payload}
 use Rattle.heap_laws.proofs.WellFormed.LargeAdded.{GoesInto, open_page_same, open_run_same}
 use Rattle.heap_laws.proofs.Programs.Limits.{script_in_range}
-use Rattle.heap_laws.proofs.Programs.BuiltCommands.{script_thread}
+use Rattle.heap_laws.proofs.Programs.ScriptCommands.{script_thread}
 use Rattle.heap_laws.proofs.Events.Tasks.{IsSameTask, same_task, outcome-board, advance_others}
 use Rattle.heap_laws.proofs.WellFormed.Threads.{open_page_used, open_run_used, other_thread}
 

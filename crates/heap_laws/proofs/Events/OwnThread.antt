@@ -30,7 +30,7 @@ use Rattle.heap_laws.proofs.Events.CollectedThreads.{collected_threads}
 use Rattle.heap_laws.proofs.Events.Counted.{owes_most, counts}
 use Rattle.heap_laws.proofs.Events.Tasks.{IsSameTask, IsSameBoard, IsOwnChange, same_task, task_then, same_board, with_cell-board, with_cell-objects, outcome-board, advanced_thread, advance_others}
 use Rattle.heap_laws.proofs.Programs.Limits.{script_in_range}
-use Rattle.heap_laws.proofs.Programs.BuiltCommands.{script_place, script_thread}
+use Rattle.heap_laws.proofs.Programs.ScriptCommands.{script_place, script_thread}
 use Rattle.heap_laws.proofs.WellFormed.Committed.{new_object}
 use Rattle.heap_laws.proofs.WellFormed.RegionOpened.{opens_run, thread_with_run}
 use Rattle.heap_laws.proofs.WellFormed.Threads.{changed_thread, other_thread, thread_cases}

@@ -14,7 +14,7 @@ use Rattle.heap_laws.specs.Order.{command_in}
 use Rattle.heap_laws.specs.Limited.{IsLimited}
 use Rattle.heap_terms.specs.WellFormed.{IsWellFormed}
 use Rattle.heap_laws.proofs.Events.OwnThread.{moves}
-use Rattle.heap_laws.proofs.Programs.BuiltCommands.{script_place}
+use Rattle.heap_laws.proofs.Programs.ScriptCommands.{script_place}
 
 pub did_command : (p : Program) (a : NamedHeap) (t : ℕ) (c : Command) (answer : Answer) → IsNext p a (Did t c answer) → command_at p a t ≡ Some c
 unfolding IsNext

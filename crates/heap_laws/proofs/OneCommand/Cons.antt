@@ -26,7 +26,7 @@ use Rattle.heap_laws.proofs.Events.OwnThread.{built_heap}
 use Rattle.heap_laws.proofs.Outcomes.Parts.{by_test}
 use Rattle.heap_laws.proofs.OneCommand.Outcome.{IsCommit, commit_outcome}
 use Rattle.heap_laws.proofs.OneCommand.Put.{advance-cells}
-use Rattle.heap_laws.proofs.Programs.BuiltCommands.{script_command, script_thread}
+use Rattle.heap_laws.proofs.Programs.ScriptCommands.{script_command, script_thread}
 use Rattle.heap_laws.proofs.WellFormed.Committed.{new_object}
 use Rattle.heap_laws.proofs.WellFormed.Replayed.{replay-well_formed}
 use Rattle.heap_laws.proofs.WellFormed.Threads.{changed_thread, thread_cases}

@@ -81,7 +81,7 @@ changed-length objects (values.Ref name) change = length-set objects name _
 simple-length : (a : NamedHeap) (t : ℕ) (c : Command) → length (outcome_of a t c).heap.objects ≡ length a.objects
 simple-length a t c =
     by_table (λ o. length o.heap.objects ≡ length a.objects) a t (λ why. refl) (λ x e. refl) (λ x e d v. ap length (with_cell-objects a t d v))
-    (λ x e th. refl) (λ x e at change. changed-length a.objects at change) (λ x e fs. refl) (λ x e. refl) c
+    (λ x e th. refl) (λ x e at change. changed-length a.objects at change) (λ x e fs short. refl) (λ x e. refl) c
 
 passes-length : (a : NamedHeap) (last g : ℕ) (records : List PassRecord) → length (after_passes a last g records).objects ≡ length a.objects
 unfolding after_pass

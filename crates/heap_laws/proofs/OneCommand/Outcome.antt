@@ -1,6 +1,7 @@
 -- The answer of a command and the heap after it, by what the command wishes for; and a command that is refused.
-use Rattle.std.proofs.Common.{◌≡◌, ℕ, ◌+◌, ◌-◌, List, [], ◌∷◌, ◌++◌, length, take, Option, Some, None, Bool, true, false, refl, sym, ◌∙◌, ap}
+use Rattle.std.proofs.Common.{◌≡◌, ℕ, ◌+◌, ◌-◌, ◌≤◌, List, [], ◌∷◌, ◌++◌, length, take, arith, length-append, Option, Some, None, Bool, true, false, refl, sym, ◌∙◌, ap}
 use Rattle.std.proofs.lemmas.Bool.{false≢true}
+use Rattle.std.proofs.lemmas.List.Filters.{length-filter_both}
 use Rattle.std.specs.Prelude.{if◌then◌else◌, slice_index_or, slice_set, nat_lt, ◌==◌, ◌||◌, not, filter, count_by}
 use Rattle.heap_terms.specs.declared.answers.Answer.{Answer}
 use Rattle.heap_terms.specs.declared.answers.Answer.TheVariants as answers
@@ -93,7 +94,7 @@ module _ (P : Outcome → Type 0) (a : NamedHeap) (t : ℕ)
     (cell : (x : Answer) → is_plain x ≡ true → (d : Cell) (v : Value) → P (answering x (with_cell a t d v)))
     (thread : (x : Answer) → is_plain x ≡ true → (th : Thread) → P (answering x (with_thread a t th)))
     (written : (x : Answer) → is_plain x ≡ true → (at : Value) (change : Contents → Contents) → P (answering x (record a { objects = changed_at a.objects at change })))
-    (finalized : (x : Answer) → is_plain x ≡ true → (fs : List (ℕ × ℕ)) → P (answering x (record a { finalizers = fs })))
+    (finalized : (x : Answer) → is_plain x ≡ true → (fs : List (ℕ × ℕ)) → length fs ≤ length a.finalizers + 1 → P (answering x (record a { finalizers = fs })))
     (ran : (x : Answer) → is_plain x ≡ true → P (answering x (record a { queue = [] }))) where
   needed : {A : Type 0} (o : Option A) (go : A → Outcome) → ((x : A) → P (go x)) → P (needing o a go)
   needed None go found = refusal refusals.NotType
@@ -213,10 +214,11 @@ module _ (P : Outcome → Type 0) (a : NamedHeap) (t : ℕ)
   by_table (commands.TableCount c) = needed (table_at a.objects (cell_value a t c)) (λ table. answering (answers.Count (length table.pairs)) a)
       (λ table. same (answers.Count (length table.pairs)) refl)
   by_table (commands.Finalize c id) = needed (name_in (cell_value a t c)) (λ name. done (record a { finalizers = a.finalizers ++ (name, id) ∷ [] }))
-      (λ name. finalized answers.Done refl (a.finalizers ++ (name, id) ∷ []))
+      (λ name. finalized answers.Done refl (a.finalizers ++ (name, id) ∷ []) (let long = length-append a.finalizers ((name, id) ∷ []) in omega arith))
   by_table (commands.Cancel c) = needed (name_in (cell_value a t c))
       (λ name. answering (answers.Count (count_by (λ entry. entry.0 == name) a.finalizers)) (record a { finalizers = filter (λ entry. not (entry.0 == name)) a.finalizers }))
-      (λ name. finalized (answers.Count (count_by (λ entry. entry.0 == name) a.finalizers)) refl (filter (λ entry. not (entry.0 == name)) a.finalizers))
+      (λ name. finalized (answers.Count (count_by (λ entry. entry.0 == name) a.finalizers)) refl (filter (λ entry. not (entry.0 == name)) a.finalizers) (
+      let both = length-filter_both (λ (entry : ℕ × ℕ). entry.0 == name) (λ (entry : ℕ × ℕ). not (entry.0 == name)) (λ entry. refl) a.finalizers in omega arith))
   by_table commands.RunFinalizers = by_test P (length a.queue == 0) (answering answers.Absent a) (answering (answers.Ran a.queue) (record a { queue = [] }))
       (λ e. same answers.Absent refl) (λ e. ran (answers.Ran a.queue) refl)
   by_table (commands.Collect g) = thread answers.Done refl (record (thread_at a t) { owed = owing (thread_at a t).owed g })
@@ -232,7 +234,7 @@ module _ (P : Outcome → Type 0) (a : NamedHeap) (t : ℕ)
 pub by_answers : (P : Answer → Type 0) (a : NamedHeap) (t : ℕ) (c : Command) → ((why : Refusal) → P (answers.Refused why)) → ((x : Answer) → is_plain x ≡ true → P x) →
     P (outcome_of a t c).answer
 by_answers P a t c refusal plain =
-    by_table (λ o. P o.answer) a t refusal plain (λ x e d v. plain x e) (λ x e th. plain x e) (λ x e at change. plain x e) (λ x e fs. plain x e) plain c
+    by_table (λ o. P o.answer) a t refusal plain (λ x e d v. plain x e) (λ x e th. plain x e) (λ x e at change. plain x e) (λ x e fs short. plain x e) plain c
 
 pub placed_not_plain : (name index : ℕ) → is_plain (answers.Placed name index) ≡ true → ⊥
 unfolding is_plain
@@ -272,7 +274,7 @@ simple_refused a t c why e =
     let never : (x : Answer) → is_plain x ≡ true → answers.Refused why ≡ x → ⊥ = λ x plain f. refused_not_plain why (ap is_plain f ∙ plain) in
     by_table (λ o. answers.Refused why ≡ o.answer → o.heap ≡ a) a t (λ other f. refl) (λ x plain f. refl)
     (λ x plain d v f. absurd (never x plain f)) (λ x plain th f. absurd (never x plain f)) (λ x plain at change f. absurd (never x plain f))
-    (λ x plain fs f. absurd (never x plain f)) (λ x plain f. absurd (never x plain f)) c e
+    (λ x plain fs short f. absurd (never x plain f)) (λ x plain f. absurd (never x plain f)) c e
 
 pub refusal_outcome : (p : Program) (a : NamedHeap) (t : ℕ) (c : Command) (why : Refusal) → IsNext p a (Did t c (answers.Refused why)) →
     after p a (Did t c (answers.Refused why)) ≡ advance a t

@@ -9,7 +9,7 @@ use Rattle.heap_terms.specs.declared.programs.Program.{Program}
 use Rattle.heap_terms.specs.Histories.{script_of}
 use Rattle.heap_terms.specs.Valid.{IsValid, IsCommand, IsInRange}
 use Rattle.heap_laws.specs.Limited.{IsLimited}
-use Rattle.heap_laws.proofs.Programs.BuiltCommands.{script_thread, script_place}
+use Rattle.heap_laws.proofs.Programs.ScriptCommands.{script_thread, script_place}
 
 -- a valid program is within the limits
 pub limited : (p : Program) → IsValid p → IsLimited p

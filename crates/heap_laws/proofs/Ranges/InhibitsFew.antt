@@ -17,7 +17,7 @@ use Rattle.heap_laws.proofs.Events.Causes.{by_events, alive_thread}
 use Rattle.heap_laws.proofs.Events.CollectedThreads.{collected_threads}
 use Rattle.heap_laws.proofs.Events.OwnThread.{built_heap}
 use Rattle.heap_laws.proofs.Events.Tasks.{outcome-board}
-use Rattle.heap_laws.proofs.Programs.BuiltCommands.{script_thread, script_command}
+use Rattle.heap_laws.proofs.Programs.ScriptCommands.{script_thread, script_command}
 use Rattle.heap_laws.proofs.WellFormed.RegionOpened.{opens_run, thread_with_run}
 use Rattle.heap_laws.proofs.WellFormed.Replayed.{after-well_formed}
 use Rattle.heap_laws.proofs.WellFormed.Threads.{start-well_formed, start_thread, thread_cases, changed_thread, other_thread}

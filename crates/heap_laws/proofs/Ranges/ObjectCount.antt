@@ -110,14 +110,19 @@ pub replay-counted : (p : Program) (h : List Event) → IsLimited p → Lawful p
 replay-counted p h limits lawful = kept_by_events p (λ a. IsCounted p a) (after-counted p limits) (start p) h (start-counted p) lawful
 
 -- no more objects than the commands of all scripts
-pub counted_few : (p : Program) (a : NamedHeap) → IsValid p → IsCounted p a → length a.objects ≤ MOST_COMMANDS
-counted_few p a valid h =
-    let most = valid.commands_most in
+counted_within : (p : Program) (a : NamedHeap) → IsCounted p a → length a.objects ≤ sum_by length p.threads
+counted_within p a h =
     let few = h.few in
     let scripts = sum_places (λ (cs : List Command). length cs) p.threads [] in
     let all : sum_by (λ t. (thread_at a t).done) (range_with_len 0 (length p.threads)) ≤ sum_by (λ t. length (get_or p.threads t [])) (range_with_len 0 (length p.threads)) =
     sum_le (λ t. (thread_at a t).done) (λ t. length (get_or p.threads t [])) 0 (length p.threads) (λ u low high. h.within u) in
     omega arith
+
+pub counted_few : (p : Program) (a : NamedHeap) → IsValid p → IsCounted p a → length a.objects ≤ MOST_COMMANDS
+counted_few p a valid h = (let most = valid.commands_most in let within = counted_within p a h in omega arith)
+
+pub commits_within : (p : Program) (h : List Event) → IsValid p → Lawful p h → length (replay p h).objects ≤ sum_by length p.threads
+commits_within p h valid lawful = counted_within p (replay p h) (replay-counted p h (limited p valid) lawful)
 
 pub commits_few : (p : Program) (h : List Event) → IsValid p → Lawful p h → length (replay p h).objects ≤ MOST_COMMANDS
 commits_few p h valid lawful = counted_few p (replay p h) valid (replay-counted p h (limited p valid) lawful)

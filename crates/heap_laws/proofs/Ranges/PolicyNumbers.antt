@@ -36,7 +36,7 @@ use Rattle.heap_laws.proofs.Events.Appending.{kept_by_events}
 use Rattle.heap_laws.proofs.Events.Causes.{by_events}
 use Rattle.heap_laws.proofs.Outcomes.Changes.{by_outcome}
 use Rattle.heap_laws.proofs.Programs.Limits.{limited, script_in_range}
-use Rattle.heap_laws.proofs.Programs.BuiltCommands.{script_thread}
+use Rattle.heap_laws.proofs.Programs.ScriptCommands.{script_thread}
 use Rattle.heap_laws.proofs.Ranges.ObjectCount.{IsCounted, after-counted, start-counted, counted_few}
 use Rattle.heap_laws.proofs.WellFormed.Committed.{new_object, initial_payload, initial_shape}
 use Rattle.heap_laws.proofs.Termination.EventsLeft.{all_left_falls, start_left, events_few}

@@ -16,7 +16,7 @@ use Rattle.heap_laws.proofs.Events.Appending.{kept_by_events}
 use Rattle.heap_laws.proofs.Events.Causes.{by_events}
 use Rattle.heap_laws.proofs.Outcomes.Changes.{IsRewritten, by_outcome}
 use Rattle.heap_laws.proofs.Programs.Limits.{limited, script_in_range}
-use Rattle.heap_laws.proofs.Programs.BuiltCommands.{script_thread}
+use Rattle.heap_laws.proofs.Programs.ScriptCommands.{script_thread}
 use Rattle.heap_laws.proofs.WellFormed.Committed.{committed-kept}
 use Rattle.heap_laws.proofs.WellFormed.FieldWritten.{written-kept, queued-kept}
 use Rattle.heap_laws.proofs.WellFormed.LivingValues.{AreBelow-nil}

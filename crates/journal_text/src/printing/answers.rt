@@ -4,12 +4,12 @@ ghost use Rattle.std.specs.Prelude.{◌≡◌, ◌+◌, ◌≤◌, ◌++◌, OnO
 ghost use Rattle.heap_terms.specs.Text.{line, number_field, field, answer_text, refusal_text, name_text, index_text, value_text, word_text, page_text};
 
 use super::pages::push_page;
-use super::room::{ANSWER_LINE, ARROW, OBJECT, SIZES};
+use super::room::{ANSWER_LINE, ARROW, SIZES};
 use heap_terms::{Answer, PageView, Refusal, Value};
 use std::alloc::AllocError;
 use text_fields::{
-    NUMBER_FIELD, Text, VALUE_FIELD, WORD, push, push_index_field, push_number, push_number_field,
-    push_numbers, push_value, push_word,
+    NUMBER_FIELD, OBJECT, Text, VALUE_FIELD, WORD, push, push_number_field, push_numbers,
+    push_object, push_value, push_word,
 };
 
 /// Appends ` -> ` and an answer, and ends the line.
@@ -55,9 +55,7 @@ fn push_placed_line(out: &mut Text, name: u32, index: u32)
     requires { ARROW + OBJECT ≤ out.old.room }
     ensures { out.new.text ≡ out.old.text ++ line (codes " -> " ++ (name_text name ++ field (index_text index))) }
 {
-    push(out, b" -> #");
-    push_number(out, name as u64);
-    push_index_field(out, index);
+    push_object(out, b" ->", name, index);
     push(out, b"\n");
 }
 

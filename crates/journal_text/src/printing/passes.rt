@@ -6,11 +6,12 @@ ghost use Rattle.heap_terms.specs.declared.events.Cull.{Cull as CullRecord};
 ghost use Rattle.heap_terms.specs.declared.events.PinAt.{PinAt as PinRecord};
 ghost use Rattle.heap_terms.specs.declared.events.Placing.{Placing as MoveRecord};
 
-use super::room::{BREAK_LINE, CULL_LINE, MOVE_LINE, OBJECT, PIN_LINE};
+use super::room::{BREAK_LINE, CULL_LINE, MOVE_LINE, PIN_LINE};
 use heap_terms::{Cull, PassRecord, PinAt, Placing};
 use std::alloc::AllocError;
 use text_fields::{
-    NUMBER_FIELD, Text, push, push_index_field, push_name_field, push_number_field, push_value,
+    NUMBER_FIELD, Text, push, push_index_end, push_name_field, push_number_field, push_object,
+    push_value,
 };
 
 /// Appends the lines of passes.
@@ -84,33 +85,21 @@ fn push_moves(out: &mut Text, moves: &[Placing]) -> Result<(), AllocError>
 }
 
 /// Appends the line of a move or a stay.
+#[inline(always)]
 fn push_move(out: &mut Text, m: &Placing)
     requires { MOVE_LINE ≤ out.old.room }
     ensures { out.new.text ≡ out.old.text ++ line (placing_text m.now.name m.now.old m.now.new) }
 {
     match m.new {
         Some(new) => {
-            push(out, b"move");
-            push_object(out, m.name, m.old);
-            push_index_field(out, new);
-            push(out, b"\n");
+            push_object(out, b"move", m.name, m.old);
+            push_index_end(out, new);
         }
         None => {
-            push(out, b"stay");
-            push_object(out, m.name, m.old);
+            push_object(out, b"stay", m.name, m.old);
             push(out, b"\n");
         }
     }
-}
-
-/// Appends a name and an index, each as a field.
-fn push_object(out: &mut Text, name: u32, index: u32)
-    requires { OBJECT ≤ out.old.room }
-    ensures text { out.new.text ≡ out.old.text ++ (field (name_text name) ++ field (index_text index)) }
-    ensures room { out.old.room ≤ out.new.room + OBJECT }
-{
-    push_name_field(out, name);
-    push_index_field(out, index);
 }
 
 /// Appends the lines of the pinned objects.
@@ -130,8 +119,7 @@ fn push_pin(out: &mut Text, name: u32, index: u32)
     requires { PIN_LINE ≤ out.old.room }
     ensures { out.new.text ≡ out.old.text ++ line (codes "pin" ++ field (name_text name) ++ field (index_text index)) }
 {
-    push(out, b"pin");
-    push_object(out, name, index);
+    push_object(out, b"pin", name, index);
     push(out, b"\n");
 }
 

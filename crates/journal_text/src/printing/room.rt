@@ -1,9 +1,8 @@
 //! How many bytes the lines of a journal and their own parts have at most. A field has the space before it with it.
 
-use text_fields::{COMMAND, INDEX, INDEX_FIELD, NAME_FIELD, NUMBER, NUMBER_FIELD, VALUE_FIELD};
-
-/// A name and an index, each as a field.
-pub(super) const OBJECT: usize = NAME_FIELD + INDEX_FIELD;
+use text_fields::{
+    COMMAND, INDEX, INDEX_FIELD, NAME_FIELD, NUMBER, NUMBER_FIELD, OBJECT, VALUE_FIELD,
+};
 
 /// The type of a page: `unboxed`.
 pub(super) const TYPE: usize = 7;

@@ -1,7 +1,10 @@
 //! Scripts whose collections promote, against their journals. The first of two tests were worked by hand
 //! beforehand; the others are what a second program gave.
 
-use super::assert_replay;
+ghost use Rattle.std.specs.Prelude.{◌≤◌, length};
+
+use super::{WHOLE, assert_replay, outcome_of};
+use std::alloc::Global;
 use std::test::Fail;
 
 #[test]
@@ -56,6 +59,54 @@ fn three_threads_share_a_list_over_two_generations(rt: HostRuntime) -> Result<()
         "0 open boxed 0 1\n0 vector g0 2 -> #0 @0\n0 open cons 1 1\n0 cons g1 b0 b0 -> #1 @512\n0 fix b1 11 -> ok\n0 put g0 0 g1 -> ok\n0 gc 0 -> ok\n0 collect 0\npass 0 0\nmove #0 @0 @1024\nmove #1 @512 @1536\nfree 0\nfree 1\nswept 0 2\n0 end\n1 open cons 0 1\n1 cons b0 b1 b1 -> #2 @0\n1 cons g2 b0 b0 -> #3 @2\n1 put g0 1 g2 -> ok\n1 gc 1 -> ok\n1 collect 1\npass 0 1\nmove #2 @0 @512\nmove #0 @1024 @2048\nmove #1 @1536 @514\nmove #3 @2 @516\nfree 0\nfree 2\nfree 3\nswept 0 4\npass 1 1\nmove #2 @512 @0\nmove #0 @2048 @1024\nmove #1 @514 @2\nmove #3 @516 @4\nfree 1\nfree 4\nswept 0 4\n1 end\n2 get s0 g0 0 -> #1\n2 nil g1 -> ok\n2 gc 1 -> ok\n2 collect 1\npass 0 1\nswept 0 0\npass 1 2\nmove #0 @1024 @512\nmove #3 @4 @1536\nmove #2 @0 @1538\npin #1 @2\nfree 2\nswept 0 4\n2 page 0 -> cons g2 fill 6 ~2@0 #1@2 ~2@4\n2 page 1 -> boxed g2 fill 4 #0@512\n2 end\ndone 23\n",
     )] {
         assert_replay(&rt, rt.alloc(), input.as_bytes(), 0, journal, "")?;
+    }
+    Ok(())
+}
+
+/// A script that makes a list and a vector and collects until they are old. Then so many times it puts
+/// a new cons into the vector, collects the young, and reads the vector.
+fn old_graph(alloc: Global, rounds: usize) -> Result<Vec<u8>, Fail> {
+    let mut script = Vec::from_slice(
+        alloc,
+        b"lispheap 1\nheap 64\nthread\nvector b2 1\n".as_slice(),
+    )?;
+    for _ in 0..300 {
+        script.extend_from_slice(b"cons b0 b1 b0\n".as_slice())?;
+    }
+    script.extend_from_slice(b"gc 2\ngc 2\n".as_slice())?;
+    for _ in 0..rounds {
+        script.extend_from_slice(
+            b"cons b3 b0 b2\nput b2 0 b3\nnil b3\ngc 0\nget b4 b2 0\nnil b4\n".as_slice(),
+        )?;
+    }
+    script.extend_from_slice(b"end\n".as_slice())?;
+    Ok(script)
+}
+
+/// How often a text stands in a journal.
+fn count_of(journal: &[u8], text: &[u8]) -> usize
+    requires { 1 ≤ length text.now }
+{
+    journal
+        .windows(text.len())
+        .filter(|part| *part == text)
+        .count()
+}
+
+/// What the vector holds is told by the commands alone, as if there were no collections. A cons that the
+/// vector no longer holds dies in the second collection after its own, which promotes the new one.
+#[test]
+fn forty_young_collections_keep_what_an_old_graph_holds(rt: HostRuntime) -> Result<(), Fail> {
+    let script = old_graph(rt.alloc(), 40)?;
+    let got = outcome_of(rt.alloc(), &["replay"], &script, WHOLE)?;
+    assert_eq!(rt; got.status, 0);
+    let journal = got.out.bytes();
+    for name in 301..341u32 {
+        let line = format!(in rt.alloc(); "\n0 get b4 b2 0 -> #{name}\n")?;
+        assert_eq!(rt; count_of(journal, line.as_bytes()), 1);
+    }
+    for line in ["\npass 0 0\n", "\nswept 0 1\n", "\nswept 1 1\n"] {
+        assert_eq!(rt; count_of(journal, line.as_bytes()), 20, "{line}");
     }
     Ok(())
 }

@@ -9,5 +9,14 @@ ghost-evacuate_roots g a = g.h
 abbrev pub ghost-scavenge_older : goal.ghost-scavenge_older
 ghost-scavenge_older g a = g.h.heap
 
-abbrev pub ghost-scavenge_all : goal.ghost-scavenge_all
-ghost-scavenge_all g a = g.h.heap
+abbrev pub ghost-settle_all : goal.ghost-settle_all
+ghost-settle_all g a = g.h.heap
+
+abbrev pub ghost-cull : goal.ghost-cull
+ghost-cull g a = g.h.heap
+
+abbrev pub ghost-break_dead : goal.ghost-break_dead
+ghost-break_dead g a = g.h.heap
+
+abbrev pub ghost-sweep : goal.ghost-sweep
+ghost-sweep g a = g.h.heap

@@ -3,6 +3,7 @@ use Rattle.std.proofs.Common.{◌+◌, length, subst, arith}
 use Rattle.std.proofs.lemmas.Option.{same_Some}
 use Rattle.generation_policy.specs.Numbers.{IsPossible}
 use Rattle.heap_terms.specs.Collections.{after_pass_of}
+use Rattle.lisp_heap.proofs.FinalizersKept.{registered_few}
 use Rattle.lisp_heap.proofs.NextPass.{can_count, can_make, is_pass_of, measurable, possible, stepped}
 use Rattle.lisp_heap.proofs.all_passes.make_next.Goals as goal
 
@@ -11,8 +12,11 @@ make_counted_pass-made-requires g c =
     let n = length c.args.passes.now.items in (
       can_make g.h c.args.last n c.args.pass c.args.space.now c.args.pages.now c.args.labels.now c.args.scratch.now.roots.exact.items c.args.scratch.now.roots.ambiguous.items c.args.stats.now
           c.requires.0 c.requires.1.0 c.args.scratch.now.room c.args.room c.requires.1.1.0 c.requires.1.1.1.0,
-      can_count g.h c.args.last n c.args.pass c.args.space.now c.args.pages.now c.args.labels.now c.args.scratch.now.roots.exact.items c.args.scratch.now.roots.ambiguous.items c.args.stats.now
-          c.requires.0 c.requires.1.0,
+      (
+        can_count g.h c.args.last n c.args.pass c.args.space.now c.args.pages.now c.args.labels.now c.args.scratch.now.roots.exact.items c.args.scratch.now.roots.ambiguous.items c.args.stats.now
+            c.requires.0 c.requires.1.0,
+        c.requires.1.1.1.1.1,
+      ),
     )
 
 pub plan_next-requires-clause-possible : goal.plan_next-requires-clause-possible
@@ -46,4 +50,9 @@ returns-clause-stepped g c =
         stand = stand;
         plan_is = c.plan_next.ensures.planned (after_pass_of g.h.heap c.args.last n made.result) stand.counted;
       },
+      record { registered = made.ensures.finalizers.registered; queue = made.ensures.finalizers.queue },
     )
+
+pub returns-clause-fewer : goal.returns-clause-fewer
+returns-clause-fewer g c =
+    registered_few g.h.heap c.make_counted_pass-made.result c.args.finalizers.now c.make_counted_pass-made.new.finalizers c.requires.1.1.1.1.1.stand c.make_counted_pass-made.ensures.finalizers

@@ -4,14 +4,19 @@ use Rattle.std.proofs.lemmas.List.Elements.{All-pop}
 use Rattle.std.proofs.lemmas.List.{length_push}
 use Rattle.std.specs.Option.{option_to_list}
 use Rattle.std.specs.Prelude.{IfSome}
-use Rattle.collect_pass.specs.Pass.{IsReservedFor}
+use Rattle.collect_pass.specs.Pass.{CanQueue, IsReservedFor}
+use Rattle.finalizers.specs.Standing.{FinalizersStand}
+use Rattle.generation_policy.proofs.Loops.{after_one_more}
+use Rattle.heap_terms.specs.Heap.{NamedHeap}
 use Rattle.copy_space.specs.declared.notes.Pass.{Pass}
 use Rattle.generation_policy.specs.Plan.{pass_over}
 use Rattle.heap_terms.specs.declared.events.PassRecord.{PassRecord}
 use Rattle.heap_terms.specs.Collections.{after_passes}
 use Rattle.lisp_heap.specs.AllPasses.{IsNextPass, IsPlanned, Stand}
-use Rattle.lisp_heap.specs.Recording.{HasRoom}
+use Rattle.lisp_heap.specs.Recording.{HasRoom, sizes_of}
 use Rattle.lisp_heap.specs.declared.recording.RecordRoom.{RecordRoom}
+use Rattle.lisp_heap.proofs.FinalizersKept.{registered_long}
+use Rattle.lisp_heap.proofs.RecordSizing.{room_within}
 use Rattle.lisp_heap.proofs.PassesSoFar.{planned_more, stand_more, stand_now}
 use Rattle.lisp_heap.proofs.all_passes.make_passes.Goals as goal
 
@@ -29,9 +34,13 @@ loop-planned-init g c =
       ambiguous = refl;
       room_pages = refl;
       room_ambiguous = refl;
+      room_weak = refl;
+      finalizers = subst (λ (rs : List PassRecord). FinalizersStand (after_passes g.h.heap c.args.last 0 rs) c.args.finalizers.now) (sym none) c.requires.1.1.1.1.1.1.stand;
+      fewer = omega arith;
+      room_queued = refl;
       rooms = c.requires.1.1.0;
       left = omega (arith, c.requires.1.1.1.0, c.args.passes.now.ok, ap (λ (rs : List PassRecord). length rs) none);
-      capacity = c.requires.1.1.1.1.1;
+      capacity = c.requires.1.1.1.1.1.0;
     }
 
 pub unwrap-room-requires : goal.unwrap-room-requires
@@ -46,21 +55,31 @@ make_next-planned-requires g c =
     let inv = c.loop-planned.invariant in
     let b = after_passes g.h.heap c.args.last 0 l.passes.items in
     let plan : IsPlanned g.h.heap c.args.last l.passes.items (Some c.in-Some.pass) = subst (IsPlanned g.h.heap c.args.last l.passes.items) c.in-Some.is inv.planned in
-    let fits : HasRoom c.unwrap-room.result (length g.h.heap.objects) (length c.args.scratch.now.roots.ambiguous.items) (length g.h.heap.pages) =
-    subst (λ (o : Option RecordRoom). IfSome o (λ (room : RecordRoom). HasRoom room (length g.h.heap.objects) (length c.args.scratch.now.roots.ambiguous.items) (length g.h.heap.pages)))
-    c.unwrap-room.ensures
-    (All-pop (λ (room : RecordRoom). HasRoom room (length g.h.heap.objects) (length c.args.scratch.now.roots.ambiguous.items) (length g.h.heap.pages))
-    l.rooms.items c.pop.new.self.items c.pop.result c.pop.ensures.items inv.rooms).1 in
-    let reserved : IsReservedFor l.scratch.room (length b.pages) (length l.scratch.roots.ambiguous.items) = record {
+    let sizes = sizes_of g.h.heap (length c.args.scratch.now.roots.ambiguous.items) in
+    let fits : HasRoom c.unwrap-room.result sizes =
+    subst (λ (o : Option RecordRoom). IfSome o (λ (room : RecordRoom). HasRoom room sizes)) c.unwrap-room.ensures
+    (All-pop (λ (room : RecordRoom). HasRoom room sizes) l.rooms.items c.pop.new.self.items c.pop.result c.pop.ensures.items inv.rooms).1 in
+    let same : length l.scratch.roots.ambiguous.items ≡ length c.args.scratch.now.roots.ambiguous.items = ap (λ (ws : List ℕ). length ws) inv.ambiguous in
+    let reserved : IsReservedFor l.scratch.room (length b.pages) (length l.scratch.roots.ambiguous.items) (length b.objects) = record {
       pages_are = inv.room_pages ∙ c.requires.1.0.pages_are ∙ sym inv.stand.pages_long;
-      enough = omega (arith, c.requires.1.0.enough, inv.room_ambiguous, ap (λ (ws : List ℕ). length ws) inv.ambiguous);
+      enough = omega (arith, c.requires.1.0.enough, inv.room_ambiguous, same);
+      weak_enough = omega (arith, c.requires.1.0.weak_enough, inv.room_weak, inv.stand.objects_long);
     } in
-    let room : HasRoom c.unwrap-room.result (length b.objects) (length l.scratch.roots.ambiguous.items) (length b.pages) =
-    subst (λ (n : ℕ). HasRoom c.unwrap-room.result n (length l.scratch.roots.ambiguous.items) (length b.pages)) (sym inv.stand.objects_long)
-    (subst (λ (n : ℕ). HasRoom c.unwrap-room.result (length g.h.heap.objects) (length l.scratch.roots.ambiguous.items) n) (sym inv.stand.pages_long)
-    (subst (λ (n : ℕ). HasRoom c.unwrap-room.result (length g.h.heap.objects) n (length g.h.heap.pages)) (sym (ap (λ (ws : List ℕ). length ws) inv.ambiguous)) fits)) in (
+    let reserved_queue = c.requires.1.1.1.1.1.1.reserved in
+    let queue : CanQueue b l.finalizers l.scratch.room = record { stand = inv.finalizers; reserved = omega (arith, reserved_queue, inv.room_queued, inv.fewer) } in
+    let registered = registered_long b l.finalizers inv.finalizers in
+    let registered_first = registered_long g.h.heap c.args.finalizers.now c.requires.1.1.1.1.1.1.stand in
+    let room : HasRoom c.unwrap-room.result (sizes_of b (length l.scratch.roots.ambiguous.items)) =
+    room_within c.unwrap-room.result (sizes_of b (length l.scratch.roots.ambiguous.items)) sizes fits (record {
+      moves = omega (arith, inv.stand.objects_long);
+      pins = omega (arith, same);
+      culls = inv.stand.pairs_few;
+      breaks = omega (arith, inv.stand.objects_long);
+      queued = omega (arith, registered, registered_first, inv.fewer);
+      freed = omega (arith, inv.stand.pages_long);
+    }) in (
       stand_now g.h c.args.last l.passes.items l.space l.pages l.labels l.scratch.roots.exact.items l.scratch.roots.ambiguous.items l.stats inv.stand,
-      (plan.1, (reserved, (room, omega (arith, inv.capacity, plan.1.low, l.passes.ok)))),
+      (plan.1, (reserved, (room, (omega (arith, inv.capacity, plan.1.low, l.passes.ok), queue)))),
     )
 
 pub loop-planned-preserved : goal.loop-planned-preserved
@@ -83,7 +102,12 @@ loop-planned-preserved g c =
       ambiguous = made.ensures.ambiguous ∙ inv.ambiguous;
       room_pages = made.ensures.room_pages ∙ inv.room_pages;
       room_ambiguous = made.ensures.room_ambiguous ∙ inv.room_ambiguous;
-      rooms = (All-pop (λ (room : RecordRoom). HasRoom room (length g.h.heap.objects) (length c.args.scratch.now.roots.ambiguous.items) (length g.h.heap.pages))
+      room_weak = made.ensures.room_weak ∙ inv.room_weak;
+      finalizers = subst (λ (rs : List PassRecord). FinalizersStand (after_passes g.h.heap c.args.last 0 rs) made.new.finalizers) (sym step.1)
+          (subst (λ (x : NamedHeap). FinalizersStand x made.new.finalizers) (sym (after_one_more g.h.heap c.args.last 0 (length l.passes.items) l.passes.items step.0 (omega arith))) step.3);
+      fewer = omega (arith, made.ensures.fewer, inv.fewer);
+      room_queued = made.ensures.room_queued ∙ inv.room_queued;
+      rooms = (All-pop (λ (room : RecordRoom). HasRoom room (sizes_of g.h.heap (length c.args.scratch.now.roots.ambiguous.items)))
           l.rooms.items c.pop.new.self.items c.pop.result c.pop.ensures.items inv.rooms).0;
       left = omega (arith, made.ensures.count, inv.left, one_less, l.rooms.ok.0, c.pop.new.self.ok.0);
       capacity = omega (arith, made.ensures.capacity, inv.capacity);

@@ -1,6 +1,9 @@
 -- The passes so far were made, and the planned one follows.
 use Rattle.std.proofs.Common.{◌≡◌, ◌+◌, ◌≤◌, length, vec_len, vec_capacity}
+use Rattle.finalizers.specs.Standing.{FinalizersStand}
+use Rattle.heap_terms.specs.Collections.{after_passes}
 use Rattle.lisp_heap.specs.AllPasses.{AreRooms, IsPlanned, Stand}
+use Rattle.lisp_heap.specs.Recording.{sizes_of}
 use Rattle.lisp_heap.proofs.PassesSoFar.{rooted_now}
 use Rattle.lisp_heap.proofs.all_passes.make_passes.Given as goal
 
@@ -14,7 +17,11 @@ invariant-loop-planned g l = record {
   ambiguous : l.scratch.roots.ambiguous.items ≡ l.fn.scratch.roots.ambiguous.items;
   room_pages : l.scratch.room.pages ≡ l.fn.scratch.room.pages;
   room_ambiguous : l.scratch.room.ambiguous ≡ l.fn.scratch.room.ambiguous;
-  rooms : AreRooms l.rooms.items (length g.h.heap.objects) (length l.fn.scratch.roots.ambiguous.items) (length g.h.heap.pages);
+  room_weak : l.scratch.room.weak ≡ l.fn.scratch.room.weak;
+  finalizers : FinalizersStand (after_passes g.h.heap l.last 0 l.passes.items) l.finalizers;
+  fewer : length l.finalizers.registered ≤ length l.fn.finalizers.registered;
+  room_queued : l.scratch.room.queued ≡ l.fn.scratch.room.queued;
+  rooms : AreRooms l.rooms.items (sizes_of g.h.heap (length l.fn.scratch.roots.ambiguous.items));
   left : vec_len l.rooms + vec_len l.passes ≡ 6;
   capacity : 6 ≤ vec_capacity l.passes;
 }

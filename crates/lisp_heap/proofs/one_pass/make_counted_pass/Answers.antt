@@ -12,7 +12,7 @@ kept_words-kept-requires g c =
     let made = c.make_pass-made.ensures.made in (
       g.h.heap,
       kept_lie g.h.heap c.args.pass.generation (target_of c.args.pass.generation c.args.pass.raise) c.make_pass-made.result c.requires.0.can.stand.sound made.is_pass
-          c.make_pass-made.new.space made.stand.sound made.stand.words_stand made.moved c.requires.1.few,
+          c.make_pass-made.new.space made.stand.sound made.stand.words_stand made.moved c.requires.1.0.few,
     )
 
 pub returns-clause-numbers : goal.returns-clause-numbers
@@ -22,9 +22,9 @@ returns-clause-numbers g c =
     let made = c.make_pass-made.ensures.made in
     let here : KeptLie g.h.heap c.make_pass-made.new.space c.make_pass-made.result =
     kept_lie g.h.heap c.args.pass.generation (target_of c.args.pass.generation c.args.pass.raise) c.make_pass-made.result c.requires.0.can.stand.sound made.is_pass
-    c.make_pass-made.new.space made.stand.sound made.stand.words_stand made.moved c.requires.1.few in
-    let before = c.account_before.ensures.stand a c.requires.1.stand in
+    c.make_pass-made.new.space made.stand.sound made.stand.words_stand made.moved c.requires.1.0.few in
+    let before = c.account_before.ensures.stand a c.requires.1.0.stand in
     let mid = accounted_still a pass c.account_before.new.stats c.count_kept.new.stats c.kept_words-kept.result before c.count_kept.ensures in
     stand_then a c.make_pass-made.result pass c.args.stats.now c.account_before.new.stats c.count_kept.new.stats c.account_after.new.stats c.kept_words-kept.result made.is_pass
-    c.requires.1.stand (ap (λ (s : GenStats). s.allocated) c.account_before.ensures.numbers) c.count_kept.ensures (c.kept_words-kept.ensures.words a here)
+    c.requires.1.0.stand (ap (λ (s : GenStats). s.allocated) c.account_before.ensures.numbers) c.count_kept.ensures (c.kept_words-kept.ensures.words a here)
     (ap (λ (s : GenStats). s.allocated) c.account_after.ensures.numbers) (c.account_after.ensures.stand a mid)

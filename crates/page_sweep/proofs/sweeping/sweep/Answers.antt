@@ -15,12 +15,12 @@ module _ (at : Tracing) (words : List ℕ) (pages : List Entry) (t : Traced) (ca
   pins_are : (n : ℕ) → n ≡ length pages → All (λ (index : ℕ). index / 512 < n) t.pins.now.listed
   pins_are n long =
       subst (λ (pins : List ℕ). All (λ (index : ℕ). index / 512 < n) pins) (sym can.tells.pins)
-      (pins-inside at.heap at.state can.tells.midway.places n (long ∙ ap length can.pages_are))
+      (pins-inside at.heap at.state can.tells.places n (long ∙ ap length can.pages_are))
 
   stays_are : (n : ℕ) → n ≡ length pages → All (λ (m : Move). m.old / 512 < n) t.moves.now
   stays_are n long =
       subst (λ (moves : List Move). All (λ (m : Move). m.old / 512 < n) moves) (sym can.tells.moves)
-      (stays-inside at.heap at.state can.tells.midway.places n (long ∙ ap length can.pages_are))
+      (stays-inside at.heap at.state can.tells.places n (long ∙ ap length can.pages_are))
 
   -- the pages are held
   held_are : (held first second : List Bool) → held ≡ replicate (length pages) false →

@@ -1,21 +1,4 @@
-use Rattle.std.proofs.Common.{◌-◌, ◌*◌, ◌<◌, ◌≤◌}
-use Rattle.copy_space.specs.State.{state}
-use Rattle.scavenge.specs.Fields.{IsSameCopier}
-use Rattle.scavenge.specs.Older.{IsEdge, AreObjectsScanned}
-use Rattle.scavenge.specs.Scanning.{Scans}
 use Rattle.scavenge.proofs.older.scan_page.Given as goal
 
-abbrev pub ghost-scan_piece : goal.ghost-scan_piece
-ghost-scan_piece g a = g.a
-
-abbrev pub invariant-loop-index : goal.invariant-loop-index
-invariant-loop-index g l = record {
-  scans : Scans g.a (state l.fn.copier) (state l.copier);
-  from : 512 * l.page ≤ l.index;
-  edge : l.index < l.end → IsEdge g.a l.index;
-  scanned : AreObjectsScanned g.a (state l.copier) (512 * l.page) l.index;
-  same : IsSameCopier l.fn.copier l.copier;
-}
-
-abbrev pub decreases-loop-index : goal.decreases-loop-index
-decreases-loop-index g l = l.end - l.index
+abbrev pub ghost-scan_pieces : goal.ghost-scan_pieces
+ghost-scan_pieces g a = g.a

@@ -1,6 +1,7 @@
 use Rattle.std.proofs.Common.{◌-◌, ◌*◌, length}
 use Rattle.copy_space.specs.State.{state}
 use Rattle.scavenge.specs.Fields.{IsSameCopier}
+use Rattle.scavenge.specs.Noting.{Notes}
 use Rattle.scavenge.specs.Scanning.{Scans, AreScanned}
 use Rattle.scavenge.proofs.queue.scan_moves.Given as goal
 
@@ -10,7 +11,8 @@ ghost-scan_object g a = g.a
 abbrev pub invariant-loop-moves : goal.invariant-loop-moves
 invariant-loop-moves g l = record {
   scans : Scans g.a (state l.fn.copier) (state l.copier);
-  scanned : AreScanned g.a (state l.copier) (record { pins = l.done.pins; moves = l.moves });
+  scanned : AreScanned g.a (state l.copier) l.weak.listed (record { pins = l.done.pins; moves = l.moves });
+  noting : Notes g.a (state l.copier) l.fn.weak l.weak;
   same : IsSameCopier l.fn.copier l.copier;
 }
 

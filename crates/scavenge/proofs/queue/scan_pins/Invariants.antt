@@ -1,5 +1,6 @@
 use Rattle.copy_space.specs.State.{state}
 use Rattle.scavenge.specs.Fields.{IsSameCopier}
+use Rattle.scavenge.specs.Noting.{Notes}
 use Rattle.scavenge.specs.Scanning.{Scans, AreScanned}
 use Rattle.scavenge.proofs.queue.scan_pins.Given as goal
 
@@ -9,6 +10,7 @@ ghost-scan_object g a = g.a
 abbrev pub invariant-loop-i : goal.invariant-loop-i
 invariant-loop-i g l = record {
   scans : Scans g.a (state l.fn.copier) (state l.copier);
-  scanned : AreScanned g.a (state l.copier) (record { pins = l.i; moves = l.done.moves });
+  scanned : AreScanned g.a (state l.copier) l.weak.listed (record { pins = l.i; moves = l.done.moves });
+  noting : Notes g.a (state l.copier) l.fn.weak l.weak;
   same : IsSameCopier l.fn.copier l.copier;
 }

@@ -3,10 +3,11 @@ use Rattle.std.proofs.Common.{◌≡◌, ℕ, ◌<◌, List, [], ◌∷◌, ◌+
 use Rattle.std.proofs.lemmas.List.{append-nil, take_all}
 use Rattle.std.specs.Prelude.{slice_index}
 use Rattle.heap_terms.specs.declared.kinds.Kind.TheVariants as kinds
+use Rattle.copy_space.specs.CullNotes.{broken_of}
 use Rattle.copy_space.specs.Settled.{is_settled}
 use Rattle.copy_space.specs.State.{state}
-use Rattle.weak_refs.specs.Breaking.{CanBreakAt, broken_of}
-use Rattle.weak_refs.specs.Listed.{IsWeakAt}
+use Rattle.weak_refs.specs.Breaking.{CanBreakAt}
+use Rattle.copy_space.specs.WeakNames.{IsWeakAt}
 use Rattle.weak_refs.specs.Rewriting.{AreRewritten, IsRewritten}
 use Rattle.weak_refs.proofs.BreakingLoop.{can-next, noted-next}
 use Rattle.weak_refs.proofs.Carrying.{rewritten-none, rewritten-on}

@@ -1,10 +1,11 @@
 use Rattle.std.proofs.Common.{◌≡◌, ℕ, List, ◌++◌, take}
 use Rattle.std.specs.Prelude.{vec_capacity}
 use Rattle.heap_terms.specs.declared.kinds.Kind.TheVariants as kinds
+use Rattle.copy_space.specs.CullNotes.{broken_of}
 use Rattle.copy_space.specs.Settled.{is_settled}
 use Rattle.copy_space.specs.State.{state}
-use Rattle.weak_refs.specs.Breaking.{SameButBroken, broken_of}
-use Rattle.weak_refs.specs.Listed.{AreNamed}
+use Rattle.weak_refs.specs.Breaking.{SameButBroken}
+use Rattle.copy_space.specs.WeakNames.{AreNamed}
 use Rattle.weak_refs.specs.Rewriting.{AreRewritten, HasSameParts}
 use Rattle.weak_refs.proofs.breaking.break_dead.Given as goal
 

@@ -1,10 +1,11 @@
 use Rattle.std.proofs.Common.{◌≡◌, ℕ, List, ◌++◌, take}
 use Rattle.std.specs.Prelude.{vec_capacity}
 use Rattle.heap_terms.specs.declared.kinds.Kind.TheVariants as kinds
+use Rattle.copy_space.specs.CullNotes.{culled_of}
 use Rattle.copy_space.specs.Settled.{is_settled}
 use Rattle.copy_space.specs.State.{state}
-use Rattle.weak_refs.specs.Culling.{SameButCulled, culled_of}
-use Rattle.weak_refs.specs.Listed.{AreNamed}
+use Rattle.weak_refs.specs.Culling.{SameButCulled}
+use Rattle.copy_space.specs.WeakNames.{AreNamed}
 use Rattle.weak_refs.specs.Rewriting.{AreRewritten, HasSameParts}
 use Rattle.weak_refs.proofs.culling.cull.Given as goal
 

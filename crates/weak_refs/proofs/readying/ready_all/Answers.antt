@@ -12,7 +12,7 @@ use Rattle.weak_refs.proofs.readying.ready_all.Goals as goal
 pub loop-i-init : goal.loop-i-init
 loop-i-init g c = record {
   readies = readies-same g.a (state c.args.copier.now) c.requires.midway;
-  ready = λ same k l. absurd (omega (arith, l));
+  ready = λ zero same k l. absurd (omega (arith, l, zero));
   same = same-self c.args.copier.now;
 }
 
@@ -39,12 +39,12 @@ loop-i-preserved g c =
     let k = c.ready_at.ensures.readies in
     record {
       readies = readies-on g.a s r t h k;
-      ready = starts-ready-on g.a s r t starts c.loop-i.i h k c.loop-i.invariant.ready
+      ready = λ zero. starts-ready-on g.a s r t starts c.loop-i.i h k (c.loop-i.invariant.ready zero)
           (subst (λ (start : ℕ). HasSameMoves r t → IsReadyAt g.a t start) c.at.ensures c.ready_at.ensures.ready);
       same = same-on c.args.copier.now c.loop-i.copier c.ready_at.new.copier c.loop-i.invariant.same c.ready_at.ensures.same;
     }
 
 pub returns-clause-ready : goal.returns-clause-ready
-returns-clause-ready g c = λ same.
+returns-clause-ready g c = λ zero same.
     (let end : c.loop-i.i ≡ length c.args.weak.now.listed = (let most = c.len-i-end.ensures.value in let test = c.loop-i-test.false in omega arith) in
-    subst (λ (n : ℕ). AreReady g.a (state c.loop-i.copier) c.args.weak.now.listed n) end (c.loop-i.invariant.ready same))
+    subst (λ (n : ℕ). AreReady g.a (state c.loop-i.copier) c.args.weak.now.listed n) end (c.loop-i.invariant.ready zero same))

@@ -5,7 +5,7 @@ use Rattle.copy_space.specs.State.{state}
 use Rattle.scavenge.proofs.Frames.{same-on, same-self}
 use Rattle.weak_refs.specs.Tables.{IsTableNow, pair_at}
 use Rattle.weak_refs.proofs.Pairs.{same-table}
-use Rattle.weak_refs.proofs.Readies.{readies-same, readies-on}
+use Rattle.weak_refs.proofs.Readies.{pair-later, readies-same, readies-on}
 use Rattle.weak_refs.proofs.TableReady.{pair-in, key-then, value-then, pair-can, table-ready, pairs-ready-on}
 use Rattle.weak_refs.proofs.TablesNow.{table-inside}
 use Rattle.weak_refs.proofs.readying.ready_table.Goals as goal
@@ -50,6 +50,19 @@ ready_pair-requires g c =
     let value_at : c.read-value.result ≡ slice_index (state c.loop-pair.copier).words (c.args.start + 4 + 2 * c.loop-pair.pair + 1) = rw c.space-in-loop-pair-2.ensures at c.read-value.ensures in
     pair-can g.a s c.args.start c.requires.midway q (state c.loop-pair.copier) c.loop-pair.invariant.readies c.loop-pair.pair (omega arith)
     c.weakness_from-weakness.result c.read-key.result c.read-value.result (c.weakness_from-weakness.ensures q.w (word ∙ q.words.weakness)) key_at value_at
+
+pub note_pair-requires : goal.note_pair-requires
+note_pair-requires g c =
+    let s = state c.args.copier.now in
+    let q = c.requires.table in
+    let count = c.pair_count-count.ensures q in
+    let test = c.loop-pair-test.true in
+    let word : c.read.result ≡ slice_index s.words (c.args.start + 1) = rw c.space.ensures at c.read.ensures in
+    let key_at : c.read-key.result ≡ slice_index (state c.loop-pair.copier).words (c.args.start + 4 + 2 * c.loop-pair.pair) = rw c.space-in-loop-pair.ensures at c.read-key.ensures in
+    let value_at : c.read-value.result ≡ slice_index (state c.loop-pair.copier).words (c.args.start + 4 + 2 * c.loop-pair.pair + 1) = rw c.space-in-loop-pair-2.ensures at c.read-value.ensures in
+    pair-later g.a (state c.loop-pair.copier) (state c.ready_pair.new.copier) c.weakness_from-weakness.result c.read-key.result c.read-value.result c.ready_pair.ensures.readies
+    (pair-can g.a s c.args.start c.requires.midway q (state c.loop-pair.copier) c.loop-pair.invariant.readies c.loop-pair.pair (omega arith)
+    c.weakness_from-weakness.result c.read-key.result c.read-value.result (c.weakness_from-weakness.ensures q.w (word ∙ q.words.weakness)) key_at value_at)
 
 pub loop-pair-preserved : goal.loop-pair-preserved
 loop-pair-preserved g c =

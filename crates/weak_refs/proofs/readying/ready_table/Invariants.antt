@@ -13,6 +13,9 @@ ghost-pair_count g a = g.a
 abbrev pub ghost-ready_pair : goal.ghost-ready_pair
 ghost-ready_pair g a = g.a
 
+abbrev pub ghost-note_pair : goal.ghost-note_pair
+ghost-note_pair g a = g.a
+
 abbrev pub invariant-loop-pair : goal.invariant-loop-pair
 invariant-loop-pair g l = record {
   readies : Readies g.a (state l.fn.copier) (state l.copier);

@@ -62,6 +62,7 @@ made c = record {
   stats = c.self.inside.stats;
   counted = c.self.inside.counted;
   triggered = c.self.inside.triggered;
+  finalizers = c.self.inside.finalizers;
   history = c.push.new.self;
   scratch = c.self.inside.scratch;
 }
@@ -86,6 +87,7 @@ sound_made c =
       stats = s.stats;
       counted = s.counted;
       triggered = s.triggered;
+      finalizers = s.finalizers;
     }) =
     rw (c.apply.ensures.cells, c.apply.ensures.words, c.advance.ensures, c.apply.ensures.states, c.apply.ensures.pins)
     (did_holds s c.self.invariant c.args.t c.args.command c.args.plan.answer c.args.plan.change lt at simple is) in

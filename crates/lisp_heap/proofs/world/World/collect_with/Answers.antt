@@ -1,14 +1,16 @@
 -- A collection is one event.
-use Rattle.std.proofs.Common.{◌≡◌, ℕ, List, [], ◌∷◌, ◌++◌, length, refl, ◌∙◌, subst, ap, arith, None}
+use Rattle.std.proofs.Common.{◌≡◌, ℕ, ◌*◌, List, [], ◌∷◌, ◌++◌, length, refl, ◌∙◌, subst, ap, arith, None}
 use Rattle.heap_terms.specs.declared.events.Event.{Event}
 use Rattle.heap_terms.specs.declared.events.Event.TheVariants.{Collected}
 use Rattle.heap_terms.specs.declared.events.PassRecord.{PassRecord}
 use Rattle.std.proofs.lemmas.List.{length-map}
+use Rattle.std.specs.List.{sum_by}
+use Rattle.collect_pass.specs.Pass.{IsReservedFor}
 use Rattle.lisp_heap.specs.CellsView.{with_exact_words}
-use Rattle.lisp_heap.specs.AllPasses.{AreRooms}
 use Rattle.lisp_heap.specs.State.{state_closed, with_owed}
+use Rattle.lisp_heap.specs.declared.recording.RecordSizes.{RecordSizes}
 use Rattle.lisp_heap.specs.declared.world.World.TheInside.{Inside}
-use Rattle.lisp_heap.proofs.CollectingWith.{can_begin, exact_long, has_room, have_rooms, Written, sound_then, happens, agrees}
+use Rattle.lisp_heap.proofs.CollectingWith.{can_begin, can_queue, exact_long, has_room, have_rooms, Written, sound_then, happens, agrees}
 use Rattle.lisp_heap.proofs.Soundness.{states_length}
 use Rattle.lisp_heap.proofs.WordReading.{thread_in}
 use Rattle.lisp_heap.proofs.world.World.collect_with.Given as given
@@ -18,16 +20,38 @@ pub make_passes-requires : goal.make_passes-requires
 make_passes-requires g c =
     let s = c.self.inside in
     let ambiguous = c.gather.new.roots.ambiguous.items in
-    let fit : AreRooms c.in_ok-rooms.rooms.items s.commits (length ambiguous) (length s.pages) =
-    subst (λ (n : ℕ). AreRooms c.in_ok-rooms.rooms.items s.commits n (length s.pages)) (c.len-pinned.ensures ∙ omega (arith, c.gather.new.roots.ambiguous.ok))
-    (subst (λ (n : ℕ). AreRooms c.in_ok-rooms.rooms.items s.commits c.len-pinned.result n) c.len.ensures.value c.in_ok-rooms.ensures.rooms) in (
+    let was = c.requires.1.1.1.1 in
+    let more = c.reserve_queued.ensures in
+    let reserved : IsReservedFor c.reserve_queued.new.self c.args.self.now.program.pages (56 * length c.args.self.now.program.threads) (sum_by length c.args.self.now.program.threads) = record {
+      pages_are = more.pages ∙ was.pages_are;
+      enough = omega (arith, was.enough, more.ambiguous);
+      weak_enough = omega (arith, was.weak_enough, more.weak);
+    } in
+    let count = c.len-queued.ensures in
+    let sizes : RecordSizes = record {
+      moves = s.commits;
+      pins = c.len.result;
+      culls = c.len-2.result;
+      breaks = s.commits;
+      queued = c.len-queued.result;
+      freed = c.len-3.result;
+    } in (
       can_begin s c.self.invariant c.args.self.now c.self.view_is g.h c.requires.0 c.args.last c.gather.new.roots.exact.items ambiguous
           c.in_ok-gather.ensures.exact c.in_ok-gather.ensures.ambiguous,
       (
-        has_room s c.self.invariant c.args.self.now c.self.view_is g.h c.requires.0 ambiguous c.args.scratch.now.room c.in_ok-gather.ensures.ambiguous c.requires.1.1.1.1,
+        has_room s c.self.invariant c.args.self.now c.self.view_is g.h c.requires.0 ambiguous c.reserve_queued.new.self c.in_ok-gather.ensures.ambiguous reserved,
         (
-          have_rooms s c.self.invariant c.args.self.now c.self.view_is g.h c.requires.0 c.in_ok-rooms.rooms.items ambiguous fit,
-          (c.in_ok-rooms.ensures.six, (c.in_ok-passes.ensures.items, omega (arith, c.in_ok-passes.ensures.capacity))),
+          have_rooms s c.self.invariant c.args.self.now c.self.view_is g.h c.requires.0 c.in_ok-rooms.rooms.items ambiguous sizes refl (c.len.ensures ∙ omega (arith, c.gather.new.roots.ambiguous.ok)) (c.len-2.ensures ∙ omega (arith, s.history.ok)) refl count c.len-3.ensures.value c.in_ok-rooms.ensures.rooms,
+          (
+            c.in_ok-rooms.ensures.six,
+            (
+              c.in_ok-passes.ensures.items,
+              (
+                omega (arith, c.in_ok-passes.ensures.capacity),
+                can_queue s c.self.invariant c.args.self.now c.self.view_is g.h c.requires.0 c.reserve_queued.new.self (omega (arith, count, c.in_ok-reserve_queued.ensures.queued)),
+              ),
+            ),
+          ),
         ),
       ),
     )
@@ -37,7 +61,7 @@ rewrite-requires g c =
     let long = exact_long c.self.inside c.self.invariant c.args.self.now c.self.view_is g.h c.requires.0 c.args.t c.args.last c.requires.1.0 c.requires.1.1.0 c.requires.1.1.1.0
     c.make_passes.new.passes.items c.make_passes.new.space c.make_passes.new.pages c.make_passes.new.labels c.make_passes.new.scratch.roots.exact.items
     c.make_passes.new.scratch.roots.ambiguous.items c.make_passes.new.stats (c.make_passes.ensures.ambiguous ∙ c.in_ok-gather.ensures.ambiguous) c.make_passes.ensures.stand
-    c.make_passes.ensures.passes in
+    c.make_passes.ensures.passes c.make_passes.new.finalizers c.make_passes.ensures.finalizers in
     ap length c.as_slice.ensures.value ∙ long
 
 pub set_owed-requires : goal.set_owed-requires
@@ -61,6 +85,7 @@ fields g c = record {
   stats = c.make_passes.new.stats;
   counted = c.self.inside.counted;
   triggered = c.self.inside.triggered;
+  finalizers = c.make_passes.new.finalizers;
   history = c.push.new.self;
   scratch = c.self.inside.scratch;
 }
@@ -68,7 +93,7 @@ fields g c = record {
 written : (g : given.Over) (c : goal.After-set_owed g) → Written c.self.inside c.self.invariant c.args.self.now c.self.view_is g.h c.requires.0 c.args.t c.args.last c.requires.1.0 c.requires.1.1.0 c.requires.1.1.1.0
     c.make_passes.new.passes.items c.make_passes.new.space c.make_passes.new.pages c.make_passes.new.labels c.make_passes.new.scratch.roots.exact.items
     c.make_passes.new.scratch.roots.ambiguous.items c.make_passes.new.stats (c.make_passes.ensures.ambiguous ∙ c.in_ok-gather.ensures.ambiguous) c.make_passes.ensures.stand
-    c.make_passes.ensures.passes (fields g c)
+    c.make_passes.ensures.passes c.make_passes.new.finalizers c.make_passes.ensures.finalizers (fields g c)
 written g c =
     let s = c.self.inside in
     let added : c.push.new.self.items ≡ c.reserve.new.self.items ++ Collected c.args.t c.args.last c.from_vec.result ∷ [] = rw c.unwrap.ensures at c.push.ensures.items in
@@ -86,6 +111,7 @@ written g c =
       stats_are = refl;
       counted = refl;
       triggered = refl;
+      finalizers = refl;
       scratch = c.self.invariant.scratch;
     }
 
@@ -94,7 +120,7 @@ invariant_of-self-2 g c =
     sound_then c.self.inside c.self.invariant c.args.self.now c.self.view_is g.h c.requires.0 c.args.t c.args.last c.requires.1.0 c.requires.1.1.0 c.requires.1.1.1.0
     c.make_passes.new.passes.items c.make_passes.new.space c.make_passes.new.pages c.make_passes.new.labels c.make_passes.new.scratch.roots.exact.items
     c.make_passes.new.scratch.roots.ambiguous.items c.make_passes.new.stats (c.make_passes.ensures.ambiguous ∙ c.in_ok-gather.ensures.ambiguous) c.make_passes.ensures.stand
-    c.make_passes.ensures.passes
+    c.make_passes.ensures.passes c.make_passes.new.finalizers c.make_passes.ensures.finalizers
     (fields g c) (written g c)
 
 pub returns-clause-ok : goal.returns-clause-ok
@@ -102,7 +128,7 @@ returns-clause-ok g c =
     happens c.self.inside c.self.invariant c.args.self.now c.self.view_is g.h c.requires.0 c.args.t c.args.last c.requires.1.0 c.requires.1.1.0 c.requires.1.1.1.0
     c.make_passes.new.passes.items c.make_passes.new.space c.make_passes.new.pages c.make_passes.new.labels c.make_passes.new.scratch.roots.exact.items
     c.make_passes.new.scratch.roots.ambiguous.items c.make_passes.new.stats (c.make_passes.ensures.ambiguous ∙ c.in_ok-gather.ensures.ambiguous) c.make_passes.ensures.stand
-    c.make_passes.ensures.passes
+    c.make_passes.ensures.passes c.make_passes.new.finalizers c.make_passes.ensures.finalizers
     (fields g c) (written g c)
 
 pub returns-clause-agrees : goal.returns-clause-agrees
@@ -110,5 +136,5 @@ returns-clause-agrees g c =
     agrees c.self.inside c.self.invariant c.args.self.now c.self.view_is g.h c.requires.0 c.args.t c.args.last c.requires.1.0 c.requires.1.1.0 c.requires.1.1.1.0
     c.make_passes.new.passes.items c.make_passes.new.space c.make_passes.new.pages c.make_passes.new.labels c.make_passes.new.scratch.roots.exact.items
     c.make_passes.new.scratch.roots.ambiguous.items c.make_passes.new.stats (c.make_passes.ensures.ambiguous ∙ c.in_ok-gather.ensures.ambiguous) c.make_passes.ensures.stand
-    c.make_passes.ensures.passes
+    c.make_passes.ensures.passes c.make_passes.new.finalizers c.make_passes.ensures.finalizers
     (fields g c) (written g c)

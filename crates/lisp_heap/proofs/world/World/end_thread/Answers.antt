@@ -48,6 +48,7 @@ made c = record {
   stats = c.self.inside.stats;
   counted = c.self.inside.counted;
   triggered = c.self.inside.triggered;
+  finalizers = c.self.inside.finalizers;
   history = c.push.new.self;
   scratch = c.self.inside.scratch;
 }
@@ -67,6 +68,7 @@ sound_made c =
       stats = s.stats;
       counted = s.counted;
       triggered = s.triggered;
+      finalizers = s.finalizers;
     }) =
     rw (c.clear.ensures, c.clear-2.ensures, c.end.ensures)
     (after_end_holds s.program (heap s) (parts_of s) c.args.t (thread_there s c.self.invariant c.args.t lt) c.self.invariant.holds) in

@@ -3,8 +3,10 @@ use Rattle.std.proofs.Common.{◌≡◌, ℕ, Result, Ok, Err, sym, ◌∙◌, a
 use Rattle.std.specs.Prelude.{OnOk, OnErr}
 use Rattle.heap_terms.specs.declared.faults.Memory.{Memory}
 use Rattle.heap_terms.specs.declared.programs.Program.{Program}
+use Rattle.lisp_heap.specs.Agreement.{Agrees}
 use Rattle.lisp_heap.specs.Events.{Happens}
-use Rattle.lisp_heap.specs.View.{View}
+use Rattle.lisp_heap.specs.ParcelView.{empty_parcel}
+use Rattle.lisp_heap.specs.View.{View, heap_of}
 use Rattle.lisp_heap.specs.WorldSound.{IsRoomFor}
 use Rattle.lisp_heap.specs.declared.scratch.Scratch.{Scratch}
 use Rattle.lisp_heap.proofs.world.World.make_collection.Goals as goal
@@ -26,3 +28,8 @@ invariant_of-self c =
           (let same : made.new.scratch ≡ x = cc in
           subst (λ (y : Scratch). IsRoomFor c.self.inside.program y) same (subst (λ (p : Program). IsRoomFor p made.new.scratch) (sym program) made.ensures.room));
     }
+
+pub returns-clause-agrees : goal.returns-clause-agrees
+returns-clause-agrees c =
+    let made = c.collect_with-result in
+    subst (λ (w : View). OnOk made.result ((u : ℕ) → Agrees (heap_of w) (empty_parcel u))) (sym c.self.view_is) made.ensures.agrees

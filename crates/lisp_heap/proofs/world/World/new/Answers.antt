@@ -21,6 +21,7 @@ invariant_of-world c =
       stats = c.new-stats.result;
       counted = 0;
       triggered = 0;
+      finalizers = c.new-finalizers.result;
       history = c.in_ok-history.history;
       scratch = None;
     } in
@@ -28,4 +29,4 @@ invariant_of-world c =
     (fresh_is s c.in_ok-space.ensures c.in_ok-pages.ensures c.in_ok-labels.ensures
     (c.in_ok-cells.ensures ∙ ap zero_cells c.len-threads.ensures)
     (c.in_ok-states.ensures ∙ ap (λ (n : ℕ). replicate n fresh_state) c.len-threads.ensures)
-    (c.in_ok-pins.ensures ∙ ap (λ (n : ℕ). replicate {A = List ℕ} n []) c.len-threads.ensures) refl c.new-stats.ensures.fresh refl refl) refl
+    (c.in_ok-pins.ensures ∙ ap (λ (n : ℕ). replicate {A = List ℕ} n []) c.len-threads.ensures) refl c.new-stats.ensures.fresh refl refl c.new-finalizers.ensures) refl

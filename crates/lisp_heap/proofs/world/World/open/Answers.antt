@@ -51,6 +51,7 @@ made c = record {
   stats = c.self.inside.stats;
   counted = c.self.inside.counted;
   triggered = c.self.inside.triggered;
+  finalizers = c.self.inside.finalizers;
   history = c.push.new.self;
   scratch = c.self.inside.scratch;
 }
@@ -78,6 +79,7 @@ sound_made c =
       stats = s.stats;
       counted = s.counted;
       triggered = s.triggered;
+      finalizers = s.finalizers;
     }) =
     rw (c.take_run.ensures.opened refl, c.open_region.ensures) (opened_holds s c.self.invariant c.args.t c.args.ty c.args.first c.args.pages f) in
     sound_after s (made c) (event c) c.self.invariant refl (pushed c) (opened_next s c.self.invariant c.args.t c.args.ty c.args.first c.args.pages f) c.self.invariant.scratch held

@@ -43,29 +43,3 @@ unreachable-requires c =
         ]
       ]
     ]
-
-pub unreachable-requires-in-WeakVal : goal.unreachable-requires-in-WeakVal
-unreachable-requires-in-WeakVal c =
-    let simple = simple_here c.self.inside c.args.self.now c.self.invariant c.self.view_is c.args.t c.current-command.result c.current-command.ensures c.requires.simple in
-    elim c.in-WeakVal.is [
-      | inl e ↦ subst IsSimple e.2 simple
-      | inr more ↦ elim more [
-        | inl e ↦ subst IsSimple e.3 simple
-        | inr more ↦ elim more [
-          | inl e ↦ subst IsSimple e.3 simple
-          | inr more ↦ elim more [
-            | inl e ↦ subst IsSimple e.2 simple
-            | inr more ↦ elim more [
-              | inl e ↦ subst IsSimple e.1 simple
-              | inr more ↦ elim more [
-                | inl e ↦ subst IsSimple e.2 simple
-                | inr more ↦ elim more [
-                  | inl e ↦ subst IsSimple e.1 simple
-                  | inr more ↦ subst IsSimple more simple
-                ]
-              ]
-            ]
-          ]
-        ]
-      ]
-    ]

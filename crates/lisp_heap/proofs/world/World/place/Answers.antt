@@ -107,6 +107,7 @@ made c = record {
   stats = c.add_words.new.stats;
   counted = c.count_words.new.counted;
   triggered = c.count_words.new.triggered;
+  finalizers = c.self.inside.finalizers;
   history = c.push.new.self;
   scratch = c.self.inside.scratch;
 }
@@ -135,6 +136,7 @@ sound_made c =
       stats = c.add_words.new.stats;
       counted = c.count_words.new.counted;
       triggered = c.count_words.new.triggered;
+      finalizers = s.finalizers;
     })
     (c.write_all.ensures.words ∙ ap (λ (ws : List ℕ). written s.space c.args.index ws) words)
     (c.fill_pages.ensures ∙ ap (λ (n : ℕ). pages_filled s.pages c.args.index n) size_is)
@@ -148,6 +150,7 @@ sound_made c =
     refl
     (c.count_words.ensures.counted ∙ ap (λ (n : ℕ). counted_after s.program.auto s.counted s.triggered n) size_is)
     (c.count_words.ensures.triggered ∙ ap (λ (n : ℕ). triggered_after s.program.auto s.counted s.triggered n) size_is)
+    refl
     (placed_holds c.self.inside c.self.invariant c.args.t c.args.command c.args.d c.args.index c.args.kind c.args.n f c.add_words.new.stats
     (subst (λ (n : ℕ). HasMore s.stats c.add_words.new.stats n) size_is c.add_words.ensures)) in
     sound_after s (made c) (event c) c.self.invariant refl (pushed c) (placed_next c.self.inside c.self.invariant c.args.t c.args.command c.args.d c.args.index c.args.kind c.args.n f) c.self.invariant.scratch held

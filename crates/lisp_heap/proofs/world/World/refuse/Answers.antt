@@ -50,6 +50,7 @@ made c = record {
   stats = c.self.inside.stats;
   counted = c.self.inside.counted;
   triggered = c.self.inside.triggered;
+  finalizers = c.self.inside.finalizers;
   history = c.push.new.self;
   scratch = c.self.inside.scratch;
 }
@@ -74,6 +75,7 @@ sound_made c =
       stats = s.stats;
       counted = s.counted;
       triggered = s.triggered;
+      finalizers = s.finalizers;
     }) =
     rw c.advance.ensures (refused_holds s c.self.invariant c.args.t c.current-command.result lt at opens) in
     sound_after s (made c) e c.self.invariant refl c.in_ok-push.ensures.items

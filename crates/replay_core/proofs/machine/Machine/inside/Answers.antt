@@ -2,7 +2,7 @@ use Rattle.std.proofs.Common.{ℕ, Bool, true, false, subst, refl}
 use Rattle.heap_terms.specs.declared.phases.Phase.TheVariants.{Inside}
 use Rattle.heap_terms.specs.declared.phases.Task.TheVariants.{Happen}
 use Rattle.replay_core.specs.MachineSound.{view_of}
-use Rattle.replay_core.specs.Stepping.{HappensInside}
+use Rattle.heap_turns.specs.Turns.{HappensInside}
 use Rattle.replay_core.proofs.Asking.{asked}
 use Rattle.replay_core.proofs.Insides.{hands_in, after_event, after_refusal}
 use Rattle.replay_core.proofs.Turning.{stays_written}

@@ -8,7 +8,7 @@ use Rattle.heap_terms.specs.Valid.{IsValid}
 use Rattle.lisp_heap.specs.Agreement.{AreFresh}
 use Rattle.machine_laws.specs.Orderly.{IsOrderly}
 use Rattle.machine_laws.proofs.Rounds.{start_orderly}
-use Rattle.replay_core.proofs.Ready.{fresh_ready}
+use Rattle.heap_turns.proofs.Ready.{fresh_ready}
 use Rattle.replay_core.proofs.machine.Machine.new.Goals as goal
 
 -- the parts of a new machine are those of the first configuration

@@ -1,0 +1,9 @@
+use Rattle.eq_index.proofs.tests.take_out.Goals as goal
+
+pub returns-clause-table : goal.returns-clause-table
+returns-clause-table c =
+    let did = c.remove.ensures c.requires.b c.requires.pairs c.requires.is in
+    record { b = c.requires.b; pairs = did.0; is = did.2.is }
+
+pub returns-clause-long : goal.returns-clause-long
+returns-clause-long c = (c.remove.ensures c.requires.b c.requires.pairs c.requires.is).2.elsewhere.long

@@ -1,0 +1,4 @@
+pub mod Lists
+pub mod Room
+pub mod Standing
+pub mod Sweeping

@@ -1,0 +1,5 @@
+pub mod Labelled
+pub mod Places
+pub mod Room
+pub mod Named
+pub mod Noted

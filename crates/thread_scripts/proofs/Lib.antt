@@ -1,0 +1,3 @@
+mod ClosedThreads
+pub mod Ends
+mod Seated
