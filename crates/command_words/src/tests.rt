@@ -21,8 +21,16 @@ fn words_that_ask_for_the_generator(rt: HostRuntime) -> Result<(), Memory> {
         (["gen", "--seed", "0"].as_slice(), 0, false),
         (["gen", "--seed=1"].as_slice(), 1, false),
         (["gen", "--seed=0042", "--script"].as_slice(), 42, true),
-        (["gen", "--seed", "00000000000000000007"].as_slice(), 7, false),
-        (["gen", "--seed", largest, "--script"].as_slice(), u64::MAX, true),
+        (
+            ["gen", "--seed", "00000000000000000007"].as_slice(),
+            7,
+            false,
+        ),
+        (
+            ["gen", "--seed", largest, "--script"].as_slice(),
+            u64::MAX,
+            true,
+        ),
     ] {
         let spoken = spoken(alloc, words)?;
         assert!(rt; is_generate(&spoken));

@@ -9,9 +9,22 @@ use std::alloc::Global;
 /// A pass of generation 0 with two moves, a stay, a pin, a break and two pages that became free.
 fn pass(alloc: Global) -> Result<PassRecord, Memory> {
     let moves = vec![in alloc;
-        Placing { name: 0, old: 0, new: Some(512) },
-        Placing { name: 1, old: 2, new: None },
-        Placing { name: 4, old: 4, new: Some(514) }]?;
+        Placing {
+            name: 0,
+            old: 0,
+            new: Some(512)
+        },
+        Placing {
+            name: 1,
+            old: 2,
+            new: None
+        },
+        Placing {
+            name: 4,
+            old: 4,
+            new: Some(514)
+        },
+    ]?;
     Ok(PassRecord {
         generation: 0,
         target: 0,
@@ -40,12 +53,26 @@ fn numbers_of_a_history(rt: HostRuntime) -> Result<(), Memory> {
     let command = Command::Show { c: Cell::Stack(0) };
     let passes = vec![in alloc; pass(alloc)?, pass(alloc)?]?;
     let events = vec![in alloc;
-        Event::Did { thread: 0, command, answer: Answer::Val(Value::Nil) },
-        Event::Did { thread: 0, command, answer: Answer::Placed { name: 0, index: 0 } },
-        Event::Collected { thread: 1, last: 0, passes: Seq::from_vec(passes) },
-        Event::Ended { thread: 0 }]?;
+        Event::Did {
+            thread: 0,
+            command,
+            answer: Answer::Val(Value::Nil)
+        },
+        Event::Did {
+            thread: 0,
+            command,
+            answer: Answer::Placed { name: 0, index: 0 }
+        },
+        Event::Collected {
+            thread: 1,
+            last: 0,
+            passes: Seq::from_vec(passes)
+        },
+        Event::Ended { thread: 0 },
+    ]?;
     let text = print_summary(alloc, &summary(&program, &events))?;
-    let expected = "threads 2\npages 9\ncommands 2\nevents 4\nobjects 1\ncollections 1\npasses 2\nmoved 4\npinned 2\nstayed 2\ndead 10\nculled 0\nbroken 2\nqueued 6\nfreed 4\n";
+    let expected =
+        "threads 2\npages 9\ncommands 2\nevents 4\nobjects 1\ncollections 1\npasses 2\nmoved 4\npinned 2\nstayed 2\ndead 10\nculled 0\nbroken 2\nqueued 6\nfreed 4\n";
     assert!(rt; text.as_slice() == expected.as_bytes());
     Ok(())
 }
