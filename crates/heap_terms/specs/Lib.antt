@@ -40,3 +40,5 @@ pub mod Phases
 pub mod MachineTurns
 pub mod Runs
 pub mod WordText
+pub mod Generated
+pub mod Summary

@@ -15,6 +15,7 @@ pub mod pages;
 pub mod phases;
 pub mod programs;
 pub mod steps;
+pub mod totals;
 
 pub use answers::{Answer, Item, Items, PageView, Refusal};
 pub use cells::{Cell, Raw, Value};
@@ -34,3 +35,4 @@ pub use pages::{Entry, Next};
 pub use phases::{Phase, Task};
 pub use programs::{Program, Scripts, Turns};
 pub use steps::{Owned, ReplayLine, StepAnswer, WordLine, WordStep};
+pub use totals::Totals;

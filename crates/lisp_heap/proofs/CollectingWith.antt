@@ -125,13 +125,13 @@ module _ (s : Inside) (i : IsSound s) (w : View) (view : view_of s ≡ w) (h : R
       sizes.culls ≡ length s.history.items → sizes.breaks ≡ s.commits → sizes.queued ≡ length s.finalizers.registered → sizes.freed ≡ length s.pages → AreRooms rooms sizes →
       AreRooms rooms (sizes_of h.heap (length ambiguous))
   have_rooms rooms ambiguous sizes moves pins culls breaks queued freed fit = rooms_within rooms (sizes_of h.heap (length ambiguous)) sizes fit (record {
-      moves = omega (arith, moves, objects_here);
-      pins = omega (arith, pins);
-      culls = omega (arith, culls, pairs_here);
-      breaks = omega (arith, breaks, objects_here);
-      queued = omega (arith, queued, registered_long h.heap s.finalizers listed_before);
-      freed = omega (arith, freed, pages_here);
-    })
+    moves = omega (arith, moves, objects_here);
+    pins = omega (arith, pins);
+    culls = omega (arith, culls, pairs_here);
+    breaks = omega (arith, breaks, objects_here);
+    queued = omega (arith, queued, registered_long h.heap s.finalizers listed_before);
+    freed = omega (arith, freed, pages_here);
+  })
 
   -- its finalizers can be queued
   pub can_queue : (room : RoomView) → length s.finalizers.registered ≤ room.queued → CanQueue h.heap s.finalizers room

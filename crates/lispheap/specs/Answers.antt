@@ -1,33 +1,18 @@
 -- What one call of the program does: its status, what it took, what it wrote, and what it said. The statuses and
 -- their causes are this project's own.
 use Rattle.std.specs.Prelude.{◌≡◌, ◌≢◌, ℕ, ◌≤◌, ◌⊎◌, List, [], ◌∷◌, ◌++◌, length, Option, Some, None, Result, Ok, Err, if◌then◌else◌, nat_lt, codes, Bool}
-use Rattle.heap_io.specs.Streams.{Stream, Rose, GaveAll, GaveMore, GaveAtMost, Grew}
+use Rattle.heap_io.specs.Streams.{GaveAll, GaveMore, GaveAtMost}
 use Rattle.heap_terms.specs.declared.limits.TheConstants.{MOST_BYTES}
 use Rattle.heap_terms.specs.declared.programs.Program.{Program}
 use Rattle.heap_terms.specs.ScriptReading.{read_script, Fault as ScriptFault, LineFault, LimitFault}
 use Rattle.lispheap.specs.declared.faults.Fault.{Fault}
 use Rattle.lispheap.specs.declared.faults.Fault.TheVariants as faults
+use Rattle.lispheap.specs.Generating.{IsGenerate, Generates}
 use Rattle.lispheap.specs.Journals.{IsJournal}
+pub use Rattle.lispheap.specs.Streams.{Change, change, Failed, IsUntouched, SaysAll, StopsWithin}
 use Rattle.lispheap.specs.Texts.{status_of, fault_text}
 
--- what a call did to a stream: what contracts see of it before the call and after it
-pub record Change : Type 0 where
-  pub old : Stream
-  pub new : Stream
-
-abbrev pub change : Stream → Stream → Change
-change old new = record { old = old; new = new }
-
--- the stream was not touched
-pub record IsUntouched (c : Change) : Type 0 where
-  pub bytes : c.new.contents ≡ c.old.contents
-  pub faults : c.new.faults ≡ c.old.faults
-
--- the stream's count of faults rose
-abbrev pub Failed : Change → Type 0
-Failed c = Rose c.old.faults c.new.faults
-
--- the words are one of the two forms that the program knows
+-- the words are one of the two forms of a replay
 abbrev pub IsReplay : List (List ℕ) → Type 0
 IsReplay words = (words ≡ codes "replay" ∷ []) ⊎ (words ≡ codes "replay" ∷ codes "--words" ∷ [])
 
@@ -51,10 +36,6 @@ TookTooMany source = GaveMore source.old.contents source.new.contents input_limi
 abbrev pub TookNotTooMany : Change → Type 0
 TookNotTooMany source = GaveAtMost source.old.contents source.new.contents input_limit
 
--- a text was appended to a stream, all of it
-pub record SaysAll (text : List ℕ) (c : Change) : Type 0 where
-  pub appended : Grew c.old.contents c.new.contents text
-
 -- the source was read to its end, and a journal of what its bytes say was appended; which texts are its journals is asked
 pub record Writes (journals : List ℕ → List ℕ → Type 0) (source out : Change) : Type 0 where
   pub input : List ℕ
@@ -62,15 +43,6 @@ pub record Writes (journals : List ℕ → List ℕ → Type 0) (source out : Ch
   pub text : List ℕ
   pub journal : journals input text
   pub written : SaysAll text out
-
--- a stream stopped within a text: a proper front of it was appended, and the count of faults rose
-pub record StopsWithin (text : List ℕ) (c : Change) : Type 0 where
-  pub front : List ℕ
-  pub rest : List ℕ
-  pub whole : text ≡ front ++ rest
-  pub proper : rest ≢ []
-  pub appended : Grew c.old.contents c.new.contents front
-  pub rose : Failed c
 
 -- the source was read to its end, and the output stopped within a journal of what its bytes say
 pub record Stops (journals : List ℕ → List ℕ → Type 0) (source out : Change) : Type 0 where
@@ -127,16 +99,26 @@ Replays journals (Some faults.TooLong) source out = TookTooMany source × IsUnto
 Replays journals (Some (faults.Limit kind)) source out = ((n : ℕ) × IsRefused source (LimitFault n kind)) × IsUntouched out
 Replays journals (Some faults.Memory) source out = TookNotTooMany source × IsUntouched out
 
--- how the call ended: the words are no form, and nothing was touched, or they are, and a replay ended so
+-- the words are one of the forms that the program knows
+abbrev pub IsForm : List (List ℕ) → Type 0
+IsForm words = IsReplay words ⊎ IsGenerate words
+
+-- how a call ended where both kinds of forms can end so
+abbrev pub EndsEither : Option Fault → List (List ℕ) → Change → Change → Type 0
+EndsEither fault words source out =
+    (IsReplay words × Replays (IsJournal (asks_for_steps words)) fault source out) ⊎ (IsUntouched source × Generates words fault out)
+
+-- How the call ended: the words are no form, and nothing was touched, or they are, and a replay ended so, or the
+-- generator, which takes nothing from the source.
 abbrev pub Ends : Option Fault → List (List ℕ) → Change → Change → Type 0
-Ends None words source out = IsReplay words × Replays (IsJournal (asks_for_steps words)) None source out
-Ends (Some faults.Usage) words source out = (¬ IsReplay words) × IsUntouched source × IsUntouched out
+Ends None words source out = EndsEither None words source out
+Ends (Some faults.Usage) words source out = (¬ IsForm words) × IsUntouched source × IsUntouched out
 Ends (Some (faults.Line n why)) words source out = IsReplay words × Replays (IsJournal (asks_for_steps words)) (Some (faults.Line n why)) source out
 Ends (Some faults.Read) words source out = IsReplay words × Replays (IsJournal (asks_for_steps words)) (Some faults.Read) source out
-Ends (Some faults.Write) words source out = IsReplay words × Replays (IsJournal (asks_for_steps words)) (Some faults.Write) source out
+Ends (Some faults.Write) words source out = EndsEither (Some faults.Write) words source out
 Ends (Some faults.TooLong) words source out = IsReplay words × Replays (IsJournal (asks_for_steps words)) (Some faults.TooLong) source out
 Ends (Some (faults.Limit kind)) words source out = IsReplay words × Replays (IsJournal (asks_for_steps words)) (Some (faults.Limit kind)) source out
-Ends (Some faults.Memory) words source out = IsReplay words × Replays (IsJournal (asks_for_steps words)) (Some faults.Memory) source out
+Ends (Some faults.Memory) words source out = EndsEither (Some faults.Memory) words source out
 
 -- the text was appended, or the stream stopped within it
 abbrev pub Says : List ℕ → Change → Type 0

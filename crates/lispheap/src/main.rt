@@ -1,8 +1,9 @@
 //! The program: it reads a script, runs it by its schedule or on threads, and writes the journal of
-//! what happened.
+//! what happened; or it makes a script of its own.
 #![tactic(auto)]
 
 mod faults;
+mod generating;
 mod on_threads;
 mod still;
 #[cfg(test)]

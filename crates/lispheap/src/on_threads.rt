@@ -5,7 +5,8 @@ ghost use Rattle.std.specs.Prelude.{◌≡◌, ◌↔◌, ◌≤◌, ◌⊎◌, 
 ghost use Rattle.std.specs.String.{string_bytes};
 ghost use Rattle.heap_terms.specs.ScriptReading.{read_script};
 ghost use Rattle.heap_terms.specs.Valid.{IsValid};
-ghost use Rattle.lispheap.specs.Answers.{change, Answers, IsExact, IsReplay, Refuses, Replays};
+ghost use Rattle.lispheap.specs.Answers.{change, Answers, IsExact, IsForm, Refuses, Replays};
+ghost use Rattle.lispheap.specs.Generating.{EndsGenerating, IsGenerate};
 ghost use Rattle.lispheap.specs.OnThreads.{AnswersRun, IsExactRun, IsRun, IsSomeJournal, IsSomeJournalOf};
 ghost use Rattle.lispheap.specs.Texts.{status_of};
 
@@ -48,7 +49,7 @@ pub fn lispheap<R: Threads + Wait + Sync, S: Source, K: Sink, E: Sink, G: Gate>(
         result }
 
     // The words alone decide this status.
-    ensures usage { (result ≡ 2) ↔ ¬ (IsRun (map string_bytes words.now) ⊎ IsReplay (map string_bytes words.now)) }
+    ensures usage { (result ≡ 2) ↔ ¬ (IsRun (map string_bytes words.now) ⊎ IsForm (map string_bytes words.now)) }
 
     // Without a fault of the source or of `out` the bytes alone decide the status, unless memory
     // runs out.
@@ -57,6 +58,12 @@ pub fn lispheap<R: Threads + Wait + Sync, S: Source, K: Sink, E: Sink, G: Gate>(
         (change (K.state out.old) (K.state out.new))
         result }
     ensures exact { IsExact (map string_bytes words.now)
+        (change (S.state source.old) (S.state source.new))
+        (change (K.state out.old) (K.state out.new))
+        result }
+
+    // The generator takes nothing from the source, and 3, 4 and 6 never come for it.
+    ensures generator { IsGenerate (map string_bytes words.now) → EndsGenerating
         (change (S.state source.old) (S.state source.new))
         (change (K.state out.old) (K.state out.new))
         result }

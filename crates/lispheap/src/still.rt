@@ -1,14 +1,18 @@
-//! The call that waits for nobody: it reads a script, replays it, and writes its journal.
+//! The call that waits for nobody: it replays a script and writes its journal, or does what is wanted of
+//! the generator.
 
 ghost use Rattle.std.specs.Prelude.{◌≡◌, ◌↔◌, ◌<◌, ◌≤◌, ◌-◌, ◌^◌, None, Some, IsTrue, OnOk, IfOk, IfErr, codes, length, map, true, false};
 ghost use Rattle.std.specs.String.{string_bytes};
 ghost use Rattle.heap_terms.specs.ScriptReading.{read_script};
 ghost use Rattle.heap_terms.specs.Valid.{IsValid};
-ghost use Rattle.lispheap.specs.Answers.{change, Answers, Ends, IsExact, asks_for_steps, IsReplay, IsInput, IsUnread, IsUnwritten, SaysAll, Refuses, Replays, Reports};
+ghost use Rattle.lispheap.specs.Answers.{change, Answers, Ends, IsExact, IsForm, asks_for_steps, IsReplay, IsInput, IsUnread, IsUnwritten, SaysAll, Refuses, Replays, Reports};
+ghost use Rattle.lispheap.specs.Generating.{EndsGenerating, IsGenerate};
 ghost use Rattle.lispheap.specs.Journals.{IsJournal, IsJournalOf};
 ghost use Rattle.lispheap.specs.Texts.{status_of};
 
 use crate::faults::{Fault, put_text, say};
+use crate::generating::write_generated;
+use command_words::is_generate;
 use heap_io::{ReadFault, Sink, Source, read_all};
 use heap_terms::{MOST_BYTES, Memory, Program};
 use journal_text::{print, print_words};
@@ -21,9 +25,13 @@ use std::mem::forget;
 const INPUT_LIMIT: u64 = MOST_BYTES as u64;
 
 /// Does what the words say and answers the status: 0 done, 2 usage, 3 no script, 4 read fault, 5
-/// write fault, 6 a limit, 7 out of memory. The forms of words are `replay` and
-/// `replay --words`: the source is read to its end as a script, the script runs by its schedule, and
-/// its journal is written to `out`, in the second form with the steps of the word machine.
+/// write fault, 6 a limit, 7 out of memory. The forms of words are these:
+/// - `replay` and `replay --words`: the source is read to its end as a script, the script runs by its
+///   schedule, and its journal is written to `out`, in the second form with the steps of the word
+///   machine.
+/// - `gen --seed N` and `gen --seed=N`: the summary of the run of N's generated program is written to
+///   `out`; with `--script` after them its script. Nothing is read.
+///
 /// What went wrong is said on `err` in one line, and a fault of `err` changes no status. The order
 /// is: usage, read, too long, grammar, run, write; want of memory may come at each of them before
 /// the write.
@@ -41,7 +49,7 @@ pub fn lispheap_still<S: Source, K: Sink, E: Sink>(
         result }
 
     // The words alone decide this status.
-    ensures usage { (result ≡ 2) ↔ ¬ IsReplay (map string_bytes words.now) }
+    ensures usage { (result ≡ 2) ↔ ¬ IsForm (map string_bytes words.now) }
 
     // Without a fault of the source or of `out` the bytes alone decide the status, unless memory
     // runs out.
@@ -49,11 +57,17 @@ pub fn lispheap_still<S: Source, K: Sink, E: Sink>(
         (change (S.state source.old) (S.state source.new))
         (change (K.state out.old) (K.state out.new))
         result }
+
+    // The generator takes nothing from the source, and 3, 4 and 6 never come for it.
+    ensures generator { IsGenerate (map string_bytes words.now) → EndsGenerating
+        (change (S.state source.old) (S.state source.new))
+        (change (K.state out.old) (K.state out.new))
+        result }
 {
     answer(alloc, words, source, out, err)
 }
 
-/// The same, without the two clauses that follow from what it answers.
+/// The same, without the clauses that follow from what it answers.
 fn answer<S: Source, K: Sink, E: Sink>(
     alloc: Global,
     words: &[String],
@@ -97,13 +111,16 @@ fn perform<S: Source, K: Sink>(
         (change (S.state source.old) (S.state source.new))
         (change (K.state out.old) (K.state out.new))) }
 {
-    if !is_replay(words) {
-        return Err(Fault::Usage);
+    if is_replay(words) {
+        return replay(alloc, words.len() > 1, source, out);
     }
-    replay(alloc, words.len() > 1, source, out)
+    if is_generate(words) {
+        return write_generated(alloc, words, out);
+    }
+    Err(Fault::Usage)
 }
 
-/// Whether the words are one of the two forms that the program knows.
+/// Whether the words are one of the two forms of a replay.
 fn is_replay(words: &[String]) -> bool
     ensures { IsTrue result ↔ IsReplay (map string_bytes words.now) }
 {
@@ -147,7 +164,7 @@ fn replay<S: Source, K: Sink>(
     write(out, &journal)
 }
 
-/// Writes a journal.
+/// Writes a journal, or what the generator makes.
 pub(crate) fn write<K: Sink>(out: &mut K, text: &[u8]) -> Result<(), Fault>
     ensures written { OnOk result (SaysAll text.now
         (change (K.state out.old) (K.state out.new))) }

@@ -5,6 +5,7 @@ ghost use Rattle.std.specs.Prelude.{◌≤◌};
 mod collections;
 mod finalizing;
 mod generations;
+mod generator;
 mod tables;
 mod threads;
 mod weakness;

@@ -428,6 +428,28 @@ fn plain_add(rest: &[u8]) -> Option<(Command, &[u8])>
     Some((Command::AddRaw { r, k }, rest))
 }
 
+/// The fields of a `tput` in their usual spelling, and the bytes after them.
+#[inline(always)]
+fn plain_tput(rest: &[u8]) -> Option<(Command, &[u8])>
+    ensures { IfSome result (λ f. IsFront Name.TablePut rest.now f.0 f.1.now) }
+{
+    let (c, rest) = plain_cell(rest)?;
+    let (k, rest) = plain_cell(rest)?;
+    let (v, rest) = plain_cell(rest)?;
+    Some((Command::TablePut { c, k, v }, rest))
+}
+
+/// The fields of a `tget` in their usual spelling, and the bytes after them.
+#[inline(always)]
+fn plain_tget(rest: &[u8]) -> Option<(Command, &[u8])>
+    ensures { IfSome result (λ f. IsFront Name.TableGet rest.now f.0 f.1.now) }
+{
+    let (d, rest) = plain_cell(rest)?;
+    let (c, rest) = plain_cell(rest)?;
+    let (k, rest) = plain_cell(rest)?;
+    Some((Command::TableGet { d, c, k }, rest))
+}
+
 /// The command of the fields at the front in their usual spelling, and the bytes after them.
 #[inline(always)]
 fn plain_front(name: Name, rest: &[u8]) -> Option<(Command, &[u8])>
@@ -449,6 +471,8 @@ fn plain_front(name: Name, rest: &[u8]) -> Option<(Command, &[u8])>
         Name::Show => plain_show(rest),
         Name::Addr => plain_addr(rest),
         Name::Add => plain_add(rest),
+        Name::TablePut => plain_tput(rest),
+        Name::TableGet => plain_tget(rest),
         Name::Words
         | Name::Weak
         | Name::Table
@@ -456,8 +480,6 @@ fn plain_front(name: Name, rest: &[u8]) -> Option<(Command, &[u8])>
         | Name::Pin
         | Name::Unpin
         | Name::WeakVal
-        | Name::TablePut
-        | Name::TableGet
         | Name::TableRem
         | Name::TableCount
         | Name::Gc

@@ -157,6 +157,18 @@ fn plain_r(rest: &[u8]) -> Option<(Name, &[u8])>
     }
 }
 
+/// The name of a command that begins with `t`, as below.
+#[inline(always)]
+fn plain_t(rest: &[u8]) -> Option<(Name, &[u8])>
+    ensures taken { IfSome result (λ f. Taken rest.now (text_of_name f.0) f.1.now) }
+    ensures built { IfSome result (λ f. is_built (text_of_name f.0) ≡ true) }
+{
+    match plain_word(rest, b"tget ") {
+        Some(after) => Some((Name::TableGet, after)),
+        None => Some((Name::TablePut, plain_word(rest, b"tput ")?)),
+    }
+}
+
 /// The name of a command that is built, with a space after it, and the bytes from that space on.
 #[inline(always)]
 pub(crate) fn plain_name(rest: &[u8]) -> Option<(Name, &[u8])>
@@ -180,6 +192,7 @@ pub(crate) fn plain_name(rest: &[u8]) -> Option<(Name, &[u8])>
         b'e' => Some((Name::Eq, plain_word(rest, b"eq ")?)),
         b'a' => plain_a(rest),
         b'r' => plain_r(rest),
+        b't' => plain_t(rest),
         _ => None,
     }
 }

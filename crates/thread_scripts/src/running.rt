@@ -106,8 +106,13 @@ fn run_all<N: Naming + Send, R: Threads + Wait + Sync, G: Gate>(
     requires seats { All (λ seat. IsAt words.now seat Place.Parked) seats.old }
 {
     let threads = seats.len().max(1);
-    for_each_mut(rt, seats, threads, &|_: usize, seat: &mut StopSeat<Parcel>|
-        requires count { threads_of words.now ≡ length N.program.threads }
-        requires seat { IsAt words.now seat.now Place.Parked }
-    { work(rt, alloc, words, desk, gate, seat) });
+    for_each_mut(
+        rt,
+        seats,
+        threads,
+        &|_: usize, seat: &mut StopSeat<Parcel>|
+            requires count { threads_of words.now ≡ length N.program.threads }
+            requires seat { IsAt words.now seat.now Place.Parked }
+        { work(rt, alloc, words, desk, gate, seat) },
+    );
 }

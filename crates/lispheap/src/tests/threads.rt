@@ -14,7 +14,6 @@ use heap_turns::turn;
 use lisp_heap::{Parcel, World, put_away_all};
 use script_text::parse;
 use std::alloc::Global;
-
 use std::process::Abort;
 use std::sync::Wait;
 use std::sync::atomic::{AtomicU64, Ordering};
@@ -43,31 +42,78 @@ fn assert_runs<R: Threads + Wait + Sync, G: Gate>(
     let mut err = MemorySink::new(alloc, 1000, 1000, Vec::new(alloc))?;
     let got = lispheap(rt, alloc, &spoken, &mut source, &mut out, &mut err, gate);
     assert_eq!(abort; got, status, "{said}");
-    assert!(abort; outputs.iter().any(|output| out.bytes() == output.as_bytes()));
+    assert!(abort;
+        outputs
+            .iter()
+            .any(|output| out.bytes() == output.as_bytes())
+    );
     assert_eq!(abort; err.bytes(), said.as_bytes(), "{said}");
     Ok(())
 }
 
 #[test]
 fn a_script_of_one_thread_runs_as_its_schedule_says(rt: HostRuntime) -> Result<(), Fail> {
-    assert_runs(&rt, &rt, rt.alloc(), &["run"], FIRST.as_bytes(), &OpenGate, 0, &[FIRST_JOURNAL], "")
+    assert_runs(
+        &rt,
+        &rt,
+        rt.alloc(),
+        &["run"],
+        FIRST.as_bytes(),
+        &OpenGate,
+        0,
+        &[FIRST_JOURNAL],
+        "",
+    )
 }
 
 #[test]
 fn other_words_and_refused_scripts_are_told_as_ever(rt: HostRuntime) -> Result<(), Fail> {
     let alloc = rt.alloc();
     let usage = "lispheap: usage\n";
-    assert_runs(&rt, &rt, alloc, &["run", "--fast"], b"", &OpenGate, 2, &[""], usage)?;
+    assert_runs(
+        &rt,
+        &rt,
+        alloc,
+        &["run", "--fast"],
+        b"",
+        &OpenGate,
+        2,
+        &[""],
+        usage,
+    )?;
     assert_runs(&rt, &rt, alloc, &[], b"", &OpenGate, 2, &[""], usage)?;
-    assert_runs(&rt, &rt, alloc, &["replay"], FIRST.as_bytes(), &OpenGate, 0, &[FIRST_JOURNAL], "")?;
+    assert_runs(
+        &rt,
+        &rt,
+        alloc,
+        &["replay"],
+        FIRST.as_bytes(),
+        &OpenGate,
+        0,
+        &[FIRST_JOURNAL],
+        "",
+    )?;
     for (input, said) in [
-        ("lispheap 1\nheap 1025\nthread\nend\n", "lispheap: limit pages 1024\n"),
+        (
+            "lispheap 1\nheap 1025\nthread\nend\n",
+            "lispheap: limit pages 1024\n",
+        ),
         (
             "lispheap 1\nheap 1\nthread\nthread\nthread\nthread\nthread\nthread\nthread\nthread\nthread\nend\n",
             "lispheap: limit threads 8\n",
         ),
     ] {
-        assert_runs(&rt, &rt, alloc, &["run"], input.as_bytes(), &OpenGate, 6, &[""], said)?;
+        assert_runs(
+            &rt,
+            &rt,
+            alloc,
+            &["run"],
+            input.as_bytes(),
+            &OpenGate,
+            6,
+            &[""],
+            said,
+        )?;
     }
     let long = vec![in alloc; b'a'; 4_194_305]?;
     let said = "lispheap: limit bytes 4194304\n";
@@ -148,13 +194,24 @@ fn a_collection_waits_for_the_section_of_a_held_thread(rt: HostRuntime) -> Resul
         "1 fix s0 7 -> ok\n1 gc 0 -> ok\n0 fix s0 5 -> ok\n1 collect 0\npass 0 0\nswept 0 0\n0 end\n1 end\ndone 6\n",
         "1 fix s0 7 -> ok\n1 gc 0 -> ok\n0 fix s0 5 -> ok\n1 collect 0\npass 0 0\nswept 0 0\n1 end\n0 end\ndone 6\n",
     ];
-    assert_runs(&rt, &rt, rt.alloc(), &["run"], input.as_bytes(), &gate, 0, &outputs, "")?;
+    assert_runs(
+        &rt,
+        &rt,
+        rt.alloc(),
+        &["run"],
+        input.as_bytes(),
+        &gate,
+        0,
+        &outputs,
+        "",
+    )?;
     assert_eq!(rt; gate.failed.load(Ordering::SeqCst), 0);
     Ok(())
 }
 
 /// Eight threads that make objects, pin them, inhibit collections and ask for them, all on a few pages.
-const EIGHT_THREADS: &str = "lispheap 1\nheap 48\nauto 512\nthread\ncons b0 s0 s0\nvector b1 20\nput b1 3 b0\ngc 0\ncons b2 b1 b0\npin b2\ngc 1\nget b3 b2 0\nunpin\ncons b4 b3 b3\nthread\nnogc\nvector s1 30\ncons b0 s1 s1\ngc 0\nput s1 0 b0\ngcok\ncons g1 b0 b0\nnil s1\ngc 0\nthread\ninstance b0 7\nput b0 2 g1\ncons b1 b0 b0\ngc 2\nget b2 b0 2\nshow b2\nthread\nwords b0 40 0x12\nraw r0 0x1000000007\ncons b1 b0 b0\ngc 0\nvector b2 9\nput b2 8 b1\ngc 0\nthread\nclosure b0 5\ncons g4 b0 b0\npin g4\ncons b2 g4 g4\ngc 1\nunpin\neq b2 g4\nthread\nvector b0 600\nput b0 599 g4\ngc 0\nget b1 b0 599\ncons b2 b1 b0\nthread\ncons s0 g1 g4\nnogc\ncons s1 s0 s0\ngc 3\ngcok\nmove g6 s1\ncons b0 g6 g6\nthread\nstat 0\npage 0\ncons b0 s0 s0\nput b0 0 b0\ngc 0\nput b0 1 g1\ncons b1 b0 b0\npage 1\nend\n";
+const EIGHT_THREADS: &str =
+    "lispheap 1\nheap 48\nauto 512\nthread\ncons b0 s0 s0\nvector b1 20\nput b1 3 b0\ngc 0\ncons b2 b1 b0\npin b2\ngc 1\nget b3 b2 0\nunpin\ncons b4 b3 b3\nthread\nnogc\nvector s1 30\ncons b0 s1 s1\ngc 0\nput s1 0 b0\ngcok\ncons g1 b0 b0\nnil s1\ngc 0\nthread\ninstance b0 7\nput b0 2 g1\ncons b1 b0 b0\ngc 2\nget b2 b0 2\nshow b2\nthread\nwords b0 40 0x12\nraw r0 0x1000000007\ncons b1 b0 b0\ngc 0\nvector b2 9\nput b2 8 b1\ngc 0\nthread\nclosure b0 5\ncons g4 b0 b0\npin g4\ncons b2 g4 g4\ngc 1\nunpin\neq b2 g4\nthread\nvector b0 600\nput b0 599 g4\ngc 0\nget b1 b0 599\ncons b2 b1 b0\nthread\ncons s0 g1 g4\nnogc\ncons s1 s0 s0\ngc 3\ngcok\nmove g6 s1\ncons b0 g6 g6\nthread\nstat 0\npage 0\ncons b0 s0 s0\nput b0 0 b0\ngc 0\nput b0 1 g1\ncons b1 b0 b0\npage 1\nend\n";
 
 /// Whether thread t may have the next event.
 fn may_go(world: &World, t: u32) -> bool

@@ -6,12 +6,10 @@ use std::test::Fail;
 
 #[test]
 fn each_weakness_keeps_its_own_of_a_live_key_and_dead_values(rt: HostRuntime) -> Result<(), Fail> {
-    for (input, journal) in [
-        (
-            "lispheap 1\nheap 8\nthread\ntable s0 key 1\ntable s1 value 1\ntable s2 key-and-value 1\ntable s3 key-or-value 1\ncons s4 b0 b0\ncons s5 b0 b0\ntput s0 s4 s5\ncons s5 b0 b0\ntput s1 s4 s5\ncons s5 b0 b0\ntput s2 s4 s5\ncons s5 b0 b0\ntput s3 s4 s5\nnil s5\ngc 0\ntcount s0\ntcount s1\ntcount s2\ntcount s3\nend\n",
-            "0 open boxed 0 1\n0 table s0 key 1 -> #0 @0\n0 table s1 value 1 -> #1 @8\n0 table s2 key-and-value 1 -> #2 @16\n0 table s3 key-or-value 1 -> #3 @24\n0 open cons 1 1\n0 cons s4 b0 b0 -> #4 @512\n0 cons s5 b0 b0 -> #5 @514\n0 tput s0 s4 s5 -> ok\n0 cons s5 b0 b0 -> #6 @516\n0 tput s1 s4 s5 -> ok\n0 cons s5 b0 b0 -> #7 @518\n0 tput s2 s4 s5 -> ok\n0 cons s5 b0 b0 -> #8 @520\n0 tput s3 s4 s5 -> ok\n0 nil s5 -> ok\n0 gc 0 -> ok\n0 collect 0\npass 0 0\nmove #5 @514 @1024\nmove #8 @520 @1026\npin #0 @0\npin #1 @8\npin #2 @16\npin #3 @24\npin #4 @512\ncull #1 #4 #6\ncull #2 #4 #7\nswept 2 7\n0 tcount s0 -> 1\n0 tcount s1 -> 0\n0 tcount s2 -> 0\n0 tcount s3 -> 1\n0 end\ndone 23\n",
-        ),
-    ] {
+    for (input, journal) in [(
+        "lispheap 1\nheap 8\nthread\ntable s0 key 1\ntable s1 value 1\ntable s2 key-and-value 1\ntable s3 key-or-value 1\ncons s4 b0 b0\ncons s5 b0 b0\ntput s0 s4 s5\ncons s5 b0 b0\ntput s1 s4 s5\ncons s5 b0 b0\ntput s2 s4 s5\ncons s5 b0 b0\ntput s3 s4 s5\nnil s5\ngc 0\ntcount s0\ntcount s1\ntcount s2\ntcount s3\nend\n",
+        "0 open boxed 0 1\n0 table s0 key 1 -> #0 @0\n0 table s1 value 1 -> #1 @8\n0 table s2 key-and-value 1 -> #2 @16\n0 table s3 key-or-value 1 -> #3 @24\n0 open cons 1 1\n0 cons s4 b0 b0 -> #4 @512\n0 cons s5 b0 b0 -> #5 @514\n0 tput s0 s4 s5 -> ok\n0 cons s5 b0 b0 -> #6 @516\n0 tput s1 s4 s5 -> ok\n0 cons s5 b0 b0 -> #7 @518\n0 tput s2 s4 s5 -> ok\n0 cons s5 b0 b0 -> #8 @520\n0 tput s3 s4 s5 -> ok\n0 nil s5 -> ok\n0 gc 0 -> ok\n0 collect 0\npass 0 0\nmove #5 @514 @1024\nmove #8 @520 @1026\npin #0 @0\npin #1 @8\npin #2 @16\npin #3 @24\npin #4 @512\ncull #1 #4 #6\ncull #2 #4 #7\nswept 2 7\n0 tcount s0 -> 1\n0 tcount s1 -> 0\n0 tcount s2 -> 0\n0 tcount s3 -> 1\n0 end\ndone 23\n",
+    )] {
         assert_replay(&rt, rt.alloc(), input.as_bytes(), 0, journal, "")?;
     }
     Ok(())
@@ -19,12 +17,10 @@ fn each_weakness_keeps_its_own_of_a_live_key_and_dead_values(rt: HostRuntime) ->
 
 #[test]
 fn a_moved_key_is_found_and_a_cull_makes_room(rt: HostRuntime) -> Result<(), Fail> {
-    for (input, journal) in [
-        (
-            "lispheap 1\nheap 4\nthread\ntable s0 key 1\ncons b0 b1 b1\nfix b2 7\ntput s0 b0 b2\ntput s0 b2 b2\ngc 0\ntget b3 s0 b0\nnil b0\ngc 0\ntput s0 b2 b2\ntget b3 s0 b2\nend\n",
-            "0 open boxed 0 1\n0 table s0 key 1 -> #0 @0\n0 open cons 1 1\n0 cons b0 b1 b1 -> #1 @512\n0 fix b2 7 -> ok\n0 tput s0 b0 b2 -> ok\n0 tput s0 b2 b2 -> !full\n0 gc 0 -> ok\n0 collect 0\npass 0 0\nmove #1 @512 @1024\npin #0 @0\nfree 1\nswept 0 2\n0 tget b3 s0 b0 -> 7\n0 nil b0 -> ok\n0 gc 0 -> ok\n0 collect 0\npass 0 1\npin #0 @0\ncull #0 #1 7\nfree 2\nswept 1 1\n0 tput s0 b2 b2 -> ok\n0 tget b3 s0 b2 -> 7\n0 end\ndone 16\n",
-        ),
-    ] {
+    for (input, journal) in [(
+        "lispheap 1\nheap 4\nthread\ntable s0 key 1\ncons b0 b1 b1\nfix b2 7\ntput s0 b0 b2\ntput s0 b2 b2\ngc 0\ntget b3 s0 b0\nnil b0\ngc 0\ntput s0 b2 b2\ntget b3 s0 b2\nend\n",
+        "0 open boxed 0 1\n0 table s0 key 1 -> #0 @0\n0 open cons 1 1\n0 cons b0 b1 b1 -> #1 @512\n0 fix b2 7 -> ok\n0 tput s0 b0 b2 -> ok\n0 tput s0 b2 b2 -> !full\n0 gc 0 -> ok\n0 collect 0\npass 0 0\nmove #1 @512 @1024\npin #0 @0\nfree 1\nswept 0 2\n0 tget b3 s0 b0 -> 7\n0 nil b0 -> ok\n0 gc 0 -> ok\n0 collect 0\npass 0 1\npin #0 @0\ncull #0 #1 7\nfree 2\nswept 1 1\n0 tput s0 b2 b2 -> ok\n0 tget b3 s0 b2 -> 7\n0 end\ndone 16\n",
+    )] {
         assert_replay(&rt, rt.alloc(), input.as_bytes(), 0, journal, "")?;
     }
     Ok(())
@@ -32,12 +28,10 @@ fn a_moved_key_is_found_and_a_cull_makes_room(rt: HostRuntime) -> Result<(), Fai
 
 #[test]
 fn three_threads_share_a_weak_table_over_two_generations(rt: HostRuntime) -> Result<(), Fail> {
-    for (input, journal) in [
-        (
-            "lispheap 1\nheap 8\nthread\ntable g0 key 2\ncons g1 b0 b0\nfix b1 11\ntput g0 g1 b1\ngc 0\nthread\ncons b0 b1 b1\ncons g2 b0 b0\ntput g0 b0 g2\ngc 1\nthread\ntget s0 g0 g1\nnil g1\ngc 1\ntcount g0\nschedule 0*31 1*27\nend\n",
-            "0 open boxed 0 1\n0 table g0 key 2 -> #0 @0\n0 open cons 1 1\n0 cons g1 b0 b0 -> #1 @512\n0 fix b1 11 -> ok\n0 tput g0 g1 b1 -> ok\n0 gc 0 -> ok\n0 collect 0\npass 0 0\nmove #0 @0 @1024\nmove #1 @512 @1536\nfree 0\nfree 1\nswept 0 2\n0 end\n1 open cons 0 1\n1 cons b0 b1 b1 -> #2 @0\n1 cons g2 b0 b0 -> #3 @2\n1 tput g0 b0 g2 -> ok\n1 gc 1 -> ok\n1 collect 1\npass 0 1\nmove #2 @0 @512\nmove #0 @1024 @2048\nmove #1 @1536 @514\nmove #3 @2 @516\nfree 0\nfree 2\nfree 3\nswept 0 4\npass 1 1\nmove #2 @512 @0\nmove #0 @2048 @1024\nmove #1 @514 @2\nmove #3 @516 @4\nfree 1\nfree 4\nswept 0 4\n1 end\n2 tget s0 g0 g1 -> 11\n2 nil g1 -> ok\n2 gc 1 -> ok\n2 collect 1\npass 0 1\nswept 0 0\npass 1 2\nmove #0 @1024 @512\nmove #3 @4 @1536\nmove #2 @0 @1538\ncull #0 #1 11\nfree 0\nfree 2\nswept 1 3\n2 tcount g0 -> 1\n2 end\ndone 22\n",
-        ),
-    ] {
+    for (input, journal) in [(
+        "lispheap 1\nheap 8\nthread\ntable g0 key 2\ncons g1 b0 b0\nfix b1 11\ntput g0 g1 b1\ngc 0\nthread\ncons b0 b1 b1\ncons g2 b0 b0\ntput g0 b0 g2\ngc 1\nthread\ntget s0 g0 g1\nnil g1\ngc 1\ntcount g0\nschedule 0*31 1*27\nend\n",
+        "0 open boxed 0 1\n0 table g0 key 2 -> #0 @0\n0 open cons 1 1\n0 cons g1 b0 b0 -> #1 @512\n0 fix b1 11 -> ok\n0 tput g0 g1 b1 -> ok\n0 gc 0 -> ok\n0 collect 0\npass 0 0\nmove #0 @0 @1024\nmove #1 @512 @1536\nfree 0\nfree 1\nswept 0 2\n0 end\n1 open cons 0 1\n1 cons b0 b1 b1 -> #2 @0\n1 cons g2 b0 b0 -> #3 @2\n1 tput g0 b0 g2 -> ok\n1 gc 1 -> ok\n1 collect 1\npass 0 1\nmove #2 @0 @512\nmove #0 @1024 @2048\nmove #1 @1536 @514\nmove #3 @2 @516\nfree 0\nfree 2\nfree 3\nswept 0 4\npass 1 1\nmove #2 @512 @0\nmove #0 @2048 @1024\nmove #1 @514 @2\nmove #3 @516 @4\nfree 1\nfree 4\nswept 0 4\n1 end\n2 tget s0 g0 g1 -> 11\n2 nil g1 -> ok\n2 gc 1 -> ok\n2 collect 1\npass 0 1\nswept 0 0\npass 1 2\nmove #0 @1024 @512\nmove #3 @4 @1536\nmove #2 @0 @1538\ncull #0 #1 11\nfree 0\nfree 2\nswept 1 3\n2 tcount g0 -> 1\n2 end\ndone 22\n",
+    )] {
         assert_replay(&rt, rt.alloc(), input.as_bytes(), 0, journal, "")?;
     }
     Ok(())
@@ -62,12 +56,10 @@ fn chains_go_across_tables_in_either_order(rt: HostRuntime) -> Result<(), Fail> 
 
 #[test]
 fn a_table_that_is_its_own_key_keeps_its_value_while_it_lives(rt: HostRuntime) -> Result<(), Fail> {
-    for (input, journal) in [
-        (
-            "lispheap 1\nheap 4\nthread\ntable b0 key 1\ncons b1 b2 b2\ntput b0 b0 b1\nnil b1\ngc 0\ntcount b0\nnil b0\ngc 0\nend\n",
-            "0 open boxed 0 1\n0 table b0 key 1 -> #0 @0\n0 open cons 1 1\n0 cons b1 b2 b2 -> #1 @512\n0 tput b0 b0 b1 -> ok\n0 nil b1 -> ok\n0 gc 0 -> ok\n0 collect 0\npass 0 0\nmove #0 @0 @1024\nmove #1 @512 @1536\nfree 0\nfree 1\nswept 0 2\n0 tcount b0 -> 1\n0 nil b0 -> ok\n0 gc 0 -> ok\n0 collect 0\npass 0 1\nfree 2\nfree 3\nswept 2 0\n0 end\ndone 13\n",
-        ),
-    ] {
+    for (input, journal) in [(
+        "lispheap 1\nheap 4\nthread\ntable b0 key 1\ncons b1 b2 b2\ntput b0 b0 b1\nnil b1\ngc 0\ntcount b0\nnil b0\ngc 0\nend\n",
+        "0 open boxed 0 1\n0 table b0 key 1 -> #0 @0\n0 open cons 1 1\n0 cons b1 b2 b2 -> #1 @512\n0 tput b0 b0 b1 -> ok\n0 nil b1 -> ok\n0 gc 0 -> ok\n0 collect 0\npass 0 0\nmove #0 @0 @1024\nmove #1 @512 @1536\nfree 0\nfree 1\nswept 0 2\n0 tcount b0 -> 1\n0 nil b0 -> ok\n0 gc 0 -> ok\n0 collect 0\npass 0 1\nfree 2\nfree 3\nswept 2 0\n0 end\ndone 13\n",
+    )] {
         assert_replay(&rt, rt.alloc(), input.as_bytes(), 0, journal, "")?;
     }
     Ok(())

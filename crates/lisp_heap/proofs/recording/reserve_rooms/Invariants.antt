@@ -1,5 +1,5 @@
 use Rattle.std.proofs.Common.{◌≡◌, ◌≤◌, vec_len, vec_capacity}
-use Rattle.lisp_heap.specs.AllPasses.{AreQueueRooms, AreRooms}
+use Rattle.lisp_heap.specs.AllPasses.{AreRooms}
 use Rattle.lisp_heap.proofs.recording.reserve_rooms.Given as goal
 
 abbrev pub invariant-loop-n : goal.invariant-loop-n

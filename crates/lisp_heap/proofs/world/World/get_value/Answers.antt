@@ -86,9 +86,13 @@ advance-requires-clause-thread c =
     let plan = plan_of c.self.inside c.args.self.now c.self.view_is c.reserve.new.self.items c.reserve.ensures.items c.args.t (commands.TableGet c.args.d c.args.c c.args.k)
     c.value_found-answer.result.answer c.value_found-answer.result.change c.value_found-answer.ensures in
     let lt = thread_in c.self.inside c.args.self.now c.self.view_is c.args.t c.requires.thread in
-    rw c.apply.ensures.states (omega (arith, lt, states_count (with_words c.self.inside c.look_up-found.new.space) (still_sound c.self.inside c.look_up-found.new.space c.self.invariant stands) c.args.t (commands.TableGet c.args.d c.args.c c.args.k) c.value_found-answer.result.answer c.value_found-answer.result.change
-    (thread_in c.self.inside c.args.self.now c.self.view_is c.args.t c.requires.thread) (command_in c.self.inside c.args.self.now c.self.view_is c.args.t (commands.TableGet c.args.d c.args.c c.args.k) c.requires.command) (simple_in c.self.inside c.args.self.now c.self.view_is c.args.t c.requires.simple)
-    (plan_in c.self.inside c.args.self.now c.self.view_is c.args.t (commands.TableGet c.args.d c.args.c c.args.k) c.value_found-answer.result.answer c.value_found-answer.result.change plan)))
+    rw c.apply.ensures.states (omega (
+      arith,
+      lt,
+      states_count (with_words c.self.inside c.look_up-found.new.space) (still_sound c.self.inside c.look_up-found.new.space c.self.invariant stands) c.args.t (commands.TableGet c.args.d c.args.c c.args.k) c.value_found-answer.result.answer c.value_found-answer.result.change
+          (thread_in c.self.inside c.args.self.now c.self.view_is c.args.t c.requires.thread) (command_in c.self.inside c.args.self.now c.self.view_is c.args.t (commands.TableGet c.args.d c.args.c c.args.k) c.requires.command) (simple_in c.self.inside c.args.self.now c.self.view_is c.args.t c.requires.simple)
+          (plan_in c.self.inside c.args.self.now c.self.view_is c.args.t (commands.TableGet c.args.d c.args.c c.args.k) c.value_found-answer.result.answer c.value_found-answer.result.change plan),
+    ))
 
 pub advance-requires-clause-room : goal.advance-requires-clause-room
 advance-requires-clause-room c =

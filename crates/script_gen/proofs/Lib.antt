@@ -1,0 +1,3 @@
+pub mod ByRow
+pub mod Making
+pub mod Validity
