@@ -4,7 +4,7 @@ use Rattle.heap_terms.specs.declared.commands.Command.{Command}
 use Rattle.heap_terms.specs.declared.commands.Command.TheVariants as commands
 use Rattle.heap_terms.specs.declared.pages.Next.TheVariants as nexts
 use Rattle.heap_terms.specs.declared.programs.Program.{Program}
-use Rattle.heap_terms.specs.Heap.{NamedHeap, thread_at}
+use Rattle.heap_terms.specs.Heap.{NamedHeap}
 use Rattle.heap_terms.specs.Histories.{command_at, next}
 use Rattle.heap_terms.specs.Regions.{wish_of, Nothing}
 use Rattle.heap_terms.specs.Valid.{IsValid}

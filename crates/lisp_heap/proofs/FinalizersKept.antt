@@ -1,5 +1,5 @@
 -- What stands for a heap's finalizers stands for those of another heap with the same finalizers.
-use Rattle.std.proofs.Common.{◌≡◌, ℕ, ◌≤◌, List, [], ◌∷◌, length, filter, not, Bool, arith, refl, sym, ◌∙◌, ap, ap₂, Option}
+use Rattle.std.proofs.Common.{◌≡◌, ℕ, ◌≤◌, List, [], ◌∷◌, length, not, arith, refl, sym, ◌∙◌, ap, ap₂, Option}
 use Rattle.std.specs.Prelude.{All, IsSome}
 use Rattle.std.proofs.lemmas.List.{length-map}
 use Rattle.std.proofs.lemmas.List.Elements.{All-head, All-tail}

@@ -1,8 +1,8 @@
 -- Lists of parcels by owner that grow.
-use Rattle.std.proofs.Common.{◌≡◌, ℕ, zero, suc, ◌+◌, ◌<◌, List, [], ◌∷◌, ◌++◌, length, map, subst, ap, ◌∙◌, sym, refl, inl, inr, arith, add-one, add-zero, zero-add}
+use Rattle.std.proofs.Common.{◌≡◌, ℕ, zero, suc, ◌+◌, List, [], ◌∷◌, ◌++◌, map, subst, ap, ◌∙◌, sym, inl, inr, arith, add-one, add-zero, zero-add}
 use Rattle.std.proofs.lemmas.List.{length_push, map-append}
 use Rattle.std.specs.List.{range_with_len}
-use Rattle.std.specs.Prelude.{All, slice_index_or}
+use Rattle.std.specs.Prelude.{All}
 use Rattle.heap_laws.proofs.AtPlaces.{push_cases}
 use Rattle.lisp_heap.specs.ParcelView.{ParcelView}
 use Rattle.lisp_heap.specs.Ready.{owner_of}

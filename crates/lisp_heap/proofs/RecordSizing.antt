@@ -1,6 +1,5 @@
 -- Room for the lists of records: what is enough for longer lists is enough for shorter ones.
-use Rattle.std.proofs.Common.{ℕ, ◌≤◌, List, arith}
-use Rattle.std.specs.Prelude.{All}
+use Rattle.std.proofs.Common.{List, arith}
 use Rattle.std.proofs.lemmas.List.Elements.{All-weaker}
 use Rattle.lisp_heap.specs.AllPasses.{AreRooms}
 use Rattle.lisp_heap.specs.Recording.{AreWithin, HasRoom}

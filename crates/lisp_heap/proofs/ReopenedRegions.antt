@@ -1,16 +1,16 @@
 -- Parcels that are made anew agree.
-use Rattle.std.proofs.Common.{◌≡◌, ℕ, ◌+◌, ◌*◌, ◌<◌, ◌≤◌, List, length, subst, ap, ◌∙◌, sym, refl, arith, Option, Some, None, option_map, ◌≢◌}
+use Rattle.std.proofs.Common.{◌≡◌, ℕ, ◌+◌, ◌*◌, ◌<◌, ◌≤◌, List, length, subst, ap, ◌∙◌, sym, refl, arith, Option, Some, None, option_map}
 use Rattle.std.proofs.lemmas.Bool.{ne_eqb}
-use Rattle.std.specs.Prelude.{option_and_then, Result, Ok, Err, OnOk}
+use Rattle.std.specs.Prelude.{Result, Ok, Err, OnOk}
 use Rattle.std.specs.Option.{ForSome}
 use Rattle.heap_terms.specs.declared.kinds.PageType.{PageType}
 use Rattle.heap_terms.specs.declared.kinds.PageType.TheVariants as types
 use Rattle.heap_terms.specs.declared.pages.Entry.{Entry}
 use Rattle.heap_terms.specs.declared.pages.Entry.TheVariants.{Free, Used}
-use Rattle.heap_terms.specs.Heap.{NamedHeap, thread_at, entry_at, fill_of}
+use Rattle.heap_terms.specs.Heap.{NamedHeap, thread_at, entry_at}
 use Rattle.heap_terms.specs.Layout.{page_words}
 use Rattle.heap_terms.specs.WellFormed.{IsOpenRun, IsOpenRunPage}
-use Rattle.lisp_heap.specs.Agreement.{Agrees, small_out, run_out, run_pages_of, run_type_of, type_of}
+use Rattle.lisp_heap.specs.Agreement.{Agrees, small_out, run_out, run_type_of, type_of}
 use Rattle.lisp_heap.specs.ParcelView.{ParcelView, LeaseView, place_of, lease_at, small_region, with_lease, with_small}
 use Rattle.lisp_heap.specs.Recalling.{leases_on, lease_from, leases_of}
 use Rattle.alloc_region.specs.View.{RegionView, reopened_region}

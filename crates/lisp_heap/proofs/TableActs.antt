@@ -11,7 +11,6 @@ use Rattle.heap_terms.specs.declared.kinds.Kind.TheVariants as kinds
 use Rattle.heap_terms.specs.declared.pages.Next.TheVariants as nexts
 use Rattle.heap_terms.specs.declared.programs.Program.{Program}
 use Rattle.heap_terms.specs.Cells.{cell_value}
-use Rattle.heap_terms.specs.Heap.{NamedHeap}
 use Rattle.heap_terms.specs.Histories.{Lawful, after, command_at, next, replay}
 use Rattle.heap_terms.specs.Valid.{IsValid}
 use Rattle.heap_terms.specs.Spelling.{word_of}
@@ -35,7 +34,7 @@ use Rattle.lisp_heap.proofs.PerformLemmas.{parts_after}
 use Rattle.lisp_heap.proofs.Soundness.{heap}
 use Rattle.lisp_heap.proofs.Stepping.{did_next, did_holds, did_agrees, sound_after, happens_after, agrees_after}
 use Rattle.lisp_heap.proofs.TablePlans.{put_done, remove_done, found_is, looked_up}
-use Rattle.lisp_heap.proofs.TableReading.{StandsTable, stands_in, stands_table}
+use Rattle.lisp_heap.proofs.TableReading.{stands_in, stands_table}
 use Rattle.lisp_heap.proofs.TablesHere.{in_words}
 use Rattle.lisp_heap.proofs.TableSteps.{IsDoneInSpace, space_next, space_holds, space_agrees}
 use Rattle.lisp_heap.proofs.WordReading.{cell_living_in, thread_in}

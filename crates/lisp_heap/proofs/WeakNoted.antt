@@ -1,16 +1,16 @@
 -- The notes of culls and breaks are those of the heap before the pass, and they are not too many.
-use Rattle.std.proofs.Common.{◌≡◌, ◌≢◌, ℕ, ◌/◌, ◌<◌, ◌≤◌, List, length, map, refl, sym, ◌∙◌, subst, ap, arith, get_or, Option, Some, None, Bool, true, false, inl, inr}
+use Rattle.std.proofs.Common.{◌≡◌, ℕ, ◌/◌, ◌<◌, ◌≤◌, List, length, sym, ◌∙◌, subst, ap, arith, get_or, Some, None, inl, inr}
 use Rattle.std.proofs.lemmas.Bool.{cases_lt, eqb-true}
 use Rattle.std.proofs.lemmas.Bool.Decides.{Decides-eqb}
 use Rattle.std.proofs.lemmas.List.{length-map, get_or_past}
 use Rattle.std.proofs.lemmas.Map.Made.{IsDistinct-from_AllPairs}
 use Rattle.std.proofs.lemmas.Map.Steps.{length-le_from_distinct_below}
-use Rattle.std.specs.Prelude.{All, AllPairs, ◌==◌, filter, flat_map, not, slice_index}
+use Rattle.std.specs.Prelude.{All, ◌==◌, filter, flat_map, not, slice_index}
 use Rattle.heap_terms.specs.declared.events.PassRecord.{PassRecord}
 use Rattle.heap_terms.specs.Heap.{NamedHeap, object_at}
 use Rattle.heap_terms.specs.Objects.{Object}
 use Rattle.heap_terms.specs.Passes.{IsPass, remains}
-use Rattle.heap_terms.specs.Survival.{breaks_in, culls_in, queued_of}
+use Rattle.heap_terms.specs.Survival.{breaks_in, culls_in}
 use Rattle.heap_terms.specs.WellFormed.{IsSound}
 use Rattle.heap_laws.proofs.AtPlaces.{IfSome-at}
 use Rattle.pair_laws.proofs.Counting.{filter_few}
@@ -20,8 +20,8 @@ use Rattle.pass_laws.proofs.Lookups.{found_at}
 use Rattle.pass_names.specs.Labelled.{AreLabels}
 use Rattle.pass_names.specs.Named.{AreNotes, IsMet, Met}
 use Rattle.copy_space.specs.declared.notes.PassNotes.{PassNotes}
-use Rattle.copy_space.specs.CullNotes.{broken_of, culled_of, noted_cull}
-use Rattle.copy_space.specs.WeakNames.{AreWeakNames, place_before}
+use Rattle.copy_space.specs.CullNotes.{noted_cull}
+use Rattle.copy_space.specs.WeakNames.{place_before}
 use Rattle.trace_laws.specs.Noted.{IsToldBy}
 use Rattle.lisp_heap.specs.Standing.{LabelsStand}
 

@@ -1,5 +1,5 @@
 -- The passes of a collection over the fields of a World, one after the other.
-use Rattle.std.specs.Prelude.{◌≡◌, ℕ, ◌+◌, ◌≤◌, List, [], All, Option, Some, None, length}
+use Rattle.std.specs.Prelude.{◌≡◌, ℕ, ◌+◌, ◌≤◌, List, All, Option, Some, None, length}
 use Rattle.copy_space.specs.declared.notes.Pass.{Pass}
 use Rattle.generation_policy.specs.declared.stats.GenStats.{GenStats}
 use Rattle.generation_policy.specs.Numbers.{StatsStand}

@@ -1,9 +1,7 @@
 -- The regions of a thread, opened again, are those that are out.
 use Rattle.std.proofs.Common.{◌≡◌, ℕ, sym, ◌∙◌, ap, subst}
-use Rattle.std.specs.Option.{ForSome}
 use Rattle.heap_terms.specs.declared.kinds.PageType.TheVariants as types
 use Rattle.heap_terms.specs.Heap.{thread_at}
-use Rattle.heap_terms.specs.WellFormed.{IsOpenRun}
 use Rattle.heap_laws.proofs.SoundHeaps.{open_run_used}
 use Rattle.lisp_heap.specs.Agreement.{Agrees}
 use Rattle.lisp_heap.specs.ParcelView.{ParcelView, empty_parcel, with_small}

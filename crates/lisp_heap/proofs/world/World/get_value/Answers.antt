@@ -1,5 +1,5 @@
 -- `tget` looks a key up in a table.
-use Rattle.std.proofs.Common.{◌≡◌, ℕ, List, [], ◌∷◌, ◌++◌, length, refl, sym, ◌∙◌, ap, subst, arith}
+use Rattle.std.proofs.Common.{◌≡◌, List, [], ◌∷◌, ◌++◌, refl, sym, ◌∙◌, ap, subst, arith}
 use Rattle.heap_terms.specs.declared.commands.Command.TheVariants as commands
 use Rattle.heap_terms.specs.declared.events.Event.{Event}
 use Rattle.heap_terms.specs.declared.events.Event.TheVariants.{Did}
@@ -7,12 +7,10 @@ use Rattle.heap_terms.specs.Cells.{cell_value}
 use Rattle.heap_terms.specs.Histories.{replay}
 use Rattle.lisp_heap.specs.LookUps.{IsFound}
 use Rattle.lisp_heap.specs.Plan.{IsPlan}
-use Rattle.lisp_heap.specs.Standing.{Holds}
 use Rattle.lisp_heap.specs.View.{View, heap_of}
-use Rattle.lisp_heap.specs.WorldSound.{parts_of}
 use Rattle.lisp_heap.specs.declared.plan.Plan.{Plan}
 use Rattle.lisp_heap.specs.declared.world.World.TheInside.{Inside}
-use Rattle.lisp_heap.proofs.Soundness.{heap, states_length, pins_length}
+use Rattle.lisp_heap.proofs.Soundness.{states_length, pins_length}
 use Rattle.lisp_heap.proofs.Stepping.{can_change, states_count, change_room}
 use Rattle.lisp_heap.proofs.TableActs.{table_there, found_there, stays_there, still_sound, same_sound, with_words, plan_of, command_in, simple_in, plan_in, EndsPlan, plan_sound, plan_happens, plan_agrees}
 use Rattle.lisp_heap.proofs.TablePlans.{no_table, get_none}

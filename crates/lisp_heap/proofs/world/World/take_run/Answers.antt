@@ -4,7 +4,7 @@ use Rattle.heap_terms.specs.declared.pages.Entry.{Entry}
 use Rattle.heap_terms.specs.declared.pages.Entry.TheVariants.{Used}
 use Rattle.heap_terms.specs.Heap.{entry_at}
 use Rattle.lisp_heap.specs.View.{heap_of}
-use Rattle.lisp_heap.proofs.ReopenedRegions.{RunThere, adopted_run, run_entry, run_there}
+use Rattle.lisp_heap.proofs.ReopenedRegions.{adopted_run, run_entry, run_there}
 use Rattle.lisp_heap.proofs.world.World.take_run.Goals as goal
 
 pub entry-requires : goal.entry-requires
