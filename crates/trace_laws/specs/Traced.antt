@@ -1,9 +1,9 @@
 -- The end of tracing: what is settled is closed under what roots and objects keep, and nothing else is settled.
-use Rattle.std.specs.Prelude.{◌≡◌, ℕ, ◌<◌, List, [], map, All, AllPairs, Some, Bool, true, nat_eq, slice_index_or}
+use Rattle.std.specs.Prelude.{◌≡◌, ℕ, ◌<◌, List, map, All, AllPairs, Some, Bool, true, nat_eq, slice_index_or}
 use Rattle.std.specs.List.{list_any}
 use Rattle.heap_terms.specs.Heap.{NamedHeap, object_at, zero_value}
 use Rattle.heap_terms.specs.Live.{IsClosed, Keeps, is_live}
-use Rattle.heap_terms.specs.Objects.{Object, Contents, ConsOf, VectorOf, InstanceOf, ClosureOf, WordsOf, WeakTo, TableOf}
+use Rattle.heap_terms.specs.Objects.{Object}
 use Rattle.heap_terms.specs.Roots.{is_pinned}
 use Rattle.copy_space.specs.Midway.{IsPlacedSoFar}
 use Rattle.copy_space.specs.Settled.{is_settled, word_now}
@@ -48,17 +48,3 @@ pub record IsTraced (h : Rooted) (s : CopyState) (exact : List ℕ) : Type 0 whe
   pub exact_now : exact ≡ map (word_now h.heap s) h.values
   pub exact_live : (i : ℕ) → is_live (is_settled h.heap s) (slice_index_or h.values i zero_value) ≡ true
   pub least : SettlesNoMore h.heap s
-
--- an object that keeps what it holds whatever is live: no weak pointer and no table
-abbrev pub IsStrong : Contents → Type 0
-IsStrong (ConsOf a b) = Unit {0}
-IsStrong (VectorOf vs) = Unit {0}
-IsStrong (InstanceOf vs) = Unit {0}
-IsStrong (ClosureOf vs) = Unit {0}
-IsStrong (WordsOf ws) = Unit {0}
-IsStrong (WeakTo v) = ⊥
-IsStrong (TableOf w b pairs) = ⊥
-
--- a heap without weak pointers and tables
-pub record IsStrongHeap (a : NamedHeap) : Type 0 where
-  pub objects : (name : ℕ) (o : Object) → object_at a.objects name ≡ Some o → IsStrong o.contents
