@@ -1,5 +1,5 @@
 -- `runfin` answers that there is nothing, or the queue.
-use Rattle.std.proofs.Common.{subst, sym, ◌∙◌}
+use Rattle.std.proofs.Common.{◌≡◌, length, subst, sym, ◌∙◌, arith}
 use Rattle.heap_terms.specs.declared.answers.Answer.TheVariants as answers
 use Rattle.heap_terms.specs.declared.commands.Command.{Command}
 use Rattle.lisp_heap.specs.FinalizerPlan.{IsFinalizerPlan, without_queue}
