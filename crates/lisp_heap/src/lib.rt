@@ -44,6 +44,4 @@ pub use parcels::{Parcel, put_away_all};
 pub use world::World;
 
 #[cfg(test)]
-mod pass_tests;
-#[cfg(test)]
 mod tests;
