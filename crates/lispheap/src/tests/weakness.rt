@@ -119,22 +119,22 @@ const SIDES: [Side; 6] = [
     },
 ];
 
+/// Two conses come to be of generation 1.
+const TWO_OLD_CONSES: &str =
+    "lispheap 1\nheap 8\nthread\ncons b8 b0 b0\ncons b9 b0 b0\ngc 0\ngc 0\n";
+
 /// How many pairs a table of one pair has after a collection, as a digit.
 fn pairs_left(alloc: Global, weakness: &str, key: Side, value: Side) -> Result<u8, Fail> {
-    let mut script = String::new(alloc);
-    for part in [
-        "lispheap 1\nheap 8\nthread\ncons b8 b0 b0\ncons b9 b0 b0\ngc 0\ngc 0\ntable s0 ",
-        weakness,
-        " 1\ntable s1 strong 2\nfix b14 1\nfix b15 2\n",
-        key.key[0],
-        value.value[0],
-        "tput s0 b1 b2\n",
-        key.key[1],
-        value.value[1],
-        "gc 0\ntcount s0\nend\n",
-    ] {
-        script.push_str(part)?;
-    }
+    let mut script = String::from_str(alloc, TWO_OLD_CONSES)?;
+    script.push_str("table s0 ")?;
+    script.push_str(weakness)?;
+    script.push_str(" 1\ntable s1 strong 2\nfix b14 1\nfix b15 2\n")?;
+    script.push_str(key.key[0])?;
+    script.push_str(value.value[0])?;
+    script.push_str("tput s0 b1 b2\n")?;
+    script.push_str(key.key[1])?;
+    script.push_str(value.value[1])?;
+    script.push_str("gc 0\ntcount s0\nend\n")?;
     let got = outcome_of(alloc, &["replay"], script.as_bytes(), WHOLE)?;
     // The journal ends with the count, a line feed, and the lines of the end and of `done`.
     let tail = "\n0 end\ndone 20\n".len();
