@@ -209,9 +209,10 @@ fn a_collection_waits_for_the_section_of_a_held_thread(rt: HostRuntime) -> Resul
     Ok(())
 }
 
-/// Eight threads that make objects, pin them, inhibit collections and ask for them, all on a few pages.
+/// Eight threads that make objects, pin them, inhibit collections and ask for them, and have weak
+/// pointers, tables and finalizers, all on a few pages.
 const EIGHT_THREADS: &str =
-    "lispheap 1\nheap 48\nauto 512\nthread\ncons b0 s0 s0\nvector b1 20\nput b1 3 b0\ngc 0\ncons b2 b1 b0\npin b2\ngc 1\nget b3 b2 0\nunpin\ncons b4 b3 b3\nthread\nnogc\nvector s1 30\ncons b0 s1 s1\ngc 0\nput s1 0 b0\ngcok\ncons g1 b0 b0\nnil s1\ngc 0\nthread\ninstance b0 7\nput b0 2 g1\ncons b1 b0 b0\ngc 2\nget b2 b0 2\nshow b2\nthread\nwords b0 40 0x12\nraw r0 0x1000000007\ncons b1 b0 b0\ngc 0\nvector b2 9\nput b2 8 b1\ngc 0\nthread\nclosure b0 5\ncons g4 b0 b0\npin g4\ncons b2 g4 g4\ngc 1\nunpin\neq b2 g4\nthread\nvector b0 600\nput b0 599 g4\ngc 0\nget b1 b0 599\ncons b2 b1 b0\nthread\ncons s0 g1 g4\nnogc\ncons s1 s0 s0\ngc 3\ngcok\nmove g6 s1\ncons b0 g6 g6\nthread\nstat 0\npage 0\ncons b0 s0 s0\nput b0 0 b0\ngc 0\nput b0 1 g1\ncons b1 b0 b0\npage 1\nend\n";
+    "lispheap 1\nheap 48\nauto 512\nthread\ncons b0 s0 s0\nvector b1 20\nput b1 3 b0\ngc 0\ncons b2 b1 b0\npin b2\ngc 1\nget b3 b2 0\nunpin\ncons b4 b3 b3\ntable g7 key-or-value 8\ntput g7 b1 b4\nfinalize b4 1\nnil b4\ngc 0\nthread\nnogc\nvector s1 30\ncons b0 s1 s1\ngc 0\nput s1 0 b0\ngcok\ncons g1 b0 b0\nnil s1\ngc 0\nthread\ninstance b0 7\nput b0 2 g1\ncons b1 b0 b0\ngc 2\nget b2 b0 2\nshow b2\nweak b3 b1\ntput g7 b1 b2\nnil b1\ngc 1\nweakval b4 b3\nthread\nwords b0 40 0x12\nraw r0 0x1000000007\ncons b1 b0 b0\ngc 0\nvector b2 9\nput b2 8 b1\ngc 0\nfinalize b1 77\nnil b1\ngc 0\nrunfin\nthread\nclosure b0 5\ncons g4 b0 b0\npin g4\ncons b2 g4 g4\ngc 1\nunpin\neq b2 g4\ntable b3 value 4\ntput b3 b2 b2\ngc 0\ntcount b3\nthread\nvector b0 600\nput b0 599 g4\ngc 0\nget b1 b0 599\ncons b2 b1 b0\nthread\ncons s0 g1 g4\nnogc\ncons s1 s0 s0\ngc 3\ngcok\nmove g6 s1\ncons b0 g6 g6\nthread\nstat 0\npage 0\ncons b0 s0 s0\nput b0 0 b0\ngc 0\nput b0 1 g1\ncons b1 b0 b0\npage 1\nfinalize b1 9\nfinalize b1 10\ncancel b1\ntcount g7\ntget b5 g7 b0\nrunfin\nend\n";
 
 /// Whether thread t may have the next event.
 fn may_go(world: &World, t: u32) -> bool
