@@ -42,31 +42,35 @@ fn words_that_ask_for_the_generator(rt: HostRuntime) -> Result<(), Memory> {
 }
 
 #[test]
-fn words_that_are_no_form(rt: HostRuntime) -> Result<(), Memory> {
-    for words in [
-        [].as_slice(),
-        ["gen"].as_slice(),
-        ["gen", "--seed"].as_slice(),
-        ["gen", "--seed="].as_slice(),
-        ["gen", "--seed", "--script"].as_slice(),
-        ["gen", "--script", "--seed", "1"].as_slice(),
-        ["gen", "--script", "--seed=1"].as_slice(),
-        ["gen", "--seed", "1", "--seed", "1"].as_slice(),
-        ["gen", "--seed=1", "--seed=1"].as_slice(),
-        ["gen", "--seed", "1", "--script", "--script"].as_slice(),
-        ["gen", "--seed", "+1"].as_slice(),
-        ["gen", "--seed", "-1"].as_slice(),
-        ["gen", "--seed", "1x"].as_slice(),
-        ["gen", "--seed", "18446744073709551616"].as_slice(),
-        ["gen", "--seed", "99999999999999999999"].as_slice(),
-        ["gen", "--seed", "000000000000000000001"].as_slice(),
-        ["gen", "--seed=18446744073709551616"].as_slice(),
-        ["gen", "-seed", "1"].as_slice(),
-        ["gene", "--seed", "1"].as_slice(),
-        ["gen", "--seed", "1", "--words"].as_slice(),
+fn words_of_no_form_are_told_from_those_of_one(rt: HostRuntime) -> Result<(), Memory> {
+    for (words, asks) in [
+        ([].as_slice(), false),
+        (["gen"].as_slice(), false),
+        (["gen", "--seed=7"].as_slice(), true),
+        (["gen", "--seed"].as_slice(), false),
+        (["gen", "--seed="].as_slice(), false),
+        (["gen", "--seed", "--script"].as_slice(), false),
+        (["gen", "--script", "--seed", "1"].as_slice(), false),
+        (["gen", "--script", "--seed=1"].as_slice(), false),
+        (["gen", "--seed", "1", "--seed", "1"].as_slice(), false),
+        (["gen", "--seed=1", "--seed=1"].as_slice(), false),
+        (
+            ["gen", "--seed", "1", "--script", "--script"].as_slice(),
+            false,
+        ),
+        (["gen", "--seed", "+1"].as_slice(), false),
+        (["gen", "--seed", "-1"].as_slice(), false),
+        (["gen", "--seed", "1x"].as_slice(), false),
+        (["gen", "--seed", "18446744073709551616"].as_slice(), false),
+        (["gen", "--seed", "99999999999999999999"].as_slice(), false),
+        (["gen", "--seed", "000000000000000000001"].as_slice(), false),
+        (["gen", "--seed=18446744073709551616"].as_slice(), false),
+        (["gen", "-seed", "1"].as_slice(), false),
+        (["gene", "--seed", "1"].as_slice(), false),
+        (["gen", "--seed", "1", "--words"].as_slice(), false),
     ] {
         let spoken = spoken(rt.alloc(), words)?;
-        assert!(rt; !is_generate(&spoken));
+        assert!(rt; is_generate(&spoken) == asks);
     }
     Ok(())
 }
