@@ -80,12 +80,11 @@ impl PinSet {
         self.starts.len() as u32
     }
 
-    /// Takes all starts out. The room stays. Where there are none the room is not gone over.
+    /// Takes all starts out. The room stays, and is not gone over: `truncate` takes time by what it
+    /// takes out, where the set's own `clear` wipes the whole room.
     pub fn clear(&mut self)
         ensures { self.new ≡ record { listed = []; most = self.old.most } }
     {
-        if self.starts.len() > 0 {
-            self.starts.clear();
-        }
+        self.starts.truncate(0);
     }
 }
