@@ -11,6 +11,8 @@ pub mod SettlingLoop
 pub mod TracedNow
 pub mod Finished
 pub mod EndStates
+pub mod Alive
+pub mod Nothing
 pub mod Begins
 pub mod Headed
 pub mod Passing

@@ -78,6 +78,7 @@ pub fn run_pass(
         &mut room.weak,
         &mut room.waiting,
         finalizers,
+        count,
     );
     let target = target_of(pass);
     let traced = Traced {

@@ -1,7 +1,8 @@
 //! Tracing: the roots are evacuated, and what they reach is scanned, until nothing is left. Then dead
 //! pairs are culled, weak pointers broken, and the finalizers of what died queued.
 
-ghost use Rattle.std.specs.Prelude.{◌≡◌};
+ghost use Rattle.std.specs.Prelude.{◌≡◌, count_by};
+ghost use Rattle.heap_terms.specs.Generations.{is_of, names};
 ghost use Rattle.heap_terms.specs.Heap.{NamedHeap};
 ghost use Rattle.copy_space.specs.Settled.{is_settled};
 ghost use Rattle.copy_space.specs.State.{state};
@@ -17,6 +18,7 @@ ghost use Rattle.collect_pass.specs.Tracing.{AreTraceNotes, CanFinalize, CanTrac
 
 use copy_space::{Copier, Marks, Pass, PassNotes};
 use finalizers::Finalizers;
+use heap_terms::MOST_PAGES;
 use page_table::PageTable;
 use pin_set::PinSet;
 use scavenge::{Scanned, scavenge_all, scavenge_older};
@@ -37,8 +39,41 @@ fn evacuate_roots(copier: &mut Copier, exact: &mut [u64])
 
 /// Moves all that is live of the generation of a pass, as far as it finds places, rewrites the exact
 /// roots and the fields of all objects, culls dead pairs, breaks weak pointers to what is dead, and
-/// queues the finalizers of what is dead. `weak` lists the weak pointers and tables then.
+/// queues the finalizers of what is dead. `weak` lists the weak pointers and tables then. `count` is
+/// how many objects the generation has; where it has none nothing is looked at.
 pub(crate) fn trace(
+    space: &mut Space,
+    pages: &mut PageTable,
+    marks: &mut Marks,
+    pins: &PinSet,
+    pass: Pass,
+    exact: &mut [u64],
+    notes: &mut PassNotes,
+    weak: &mut PinSet,
+    waiting: &mut Waiting,
+    finalizers: &mut Finalizers,
+    count: u32,
+)
+    ghost h: { Rooted }
+    requires can { CanTrace h space.old pages.old marks.old pins.now.listed pass exact.old notes.old weak.old }
+    requires queue { CanFinalize h.heap finalizers.old notes.old }
+    requires count { count ≡ count_by (is_of h.heap pass.generation) (names h.heap) }
+    ensures traced { IsTraced h (end_state h.heap space.new pages.new marks.new pins.now.listed pass notes.new.moves.items) exact.new }
+    ensures notes { AreTraceNotes h.heap (is_settled h.heap (end_state h.heap space.new pages.new marks.new pins.now.listed pass notes.new.moves.items)) notes.old notes.new }
+    ensures finalizers { IsSwept h.heap (end_state h.heap space.new pages.new marks.new pins.now.listed pass notes.new.moves.items) h.heap.finalizers finalizers.old finalizers.new }
+    ensures most { weak.new.most ≡ weak.old.most }
+{
+    prove!(pages.len() <= MOST_PAGES);
+    if count == 0 {
+        return;
+    }
+    trace_live(
+        space, pages, marks, pins, pass, exact, notes, weak, waiting, finalizers,
+    );
+}
+
+/// The same of a generation that has objects.
+fn trace_live(
     space: &mut Space,
     pages: &mut PageTable,
     marks: &mut Marks,

@@ -15,7 +15,7 @@ trace-requires g c =
     let hit = subst (λ (ws : List ℕ). AreHitStarts g.h.heap c.args.pass.generation ws c.find_pins-count.new.pins.listed) c.as_slice-ambiguous.ensures.value c.find_pins-count.ensures.pins in (
       can-trace g.h c.args.space.now c.args.pages.now c.args.roots.now.exact.items c.args.roots.now.ambiguous.items c.args.pass c.args.room.now c.requires.0 c.room.inside c.room.invariant c.room.view_is
           c.find_pins-count.new.pins.listed c.as_mut_slice-exact.result.now c.clear_notes.new.notes hit c.as_mut_slice-exact.ensures.value c.clear_notes.ensures,
-      record { stand = c.requires.1.stand; none = c.clear_notes.ensures.queued; room = omega arith },
+      (record { stand = c.requires.1.stand; none = c.clear_notes.ensures.queued; room = omega arith }, c.find_pins-count.ensures.count),
     )
 
 pub sweep-requires : goal.sweep-requires

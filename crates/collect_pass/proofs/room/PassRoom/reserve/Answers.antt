@@ -1,5 +1,5 @@
 -- A new room is clear and large enough.
-use Rattle.std.proofs.Common.{◌≡◌, ℕ, ◌*◌, List, length, replicate, false, sym, ◌∙◌, ap, arith}
+use Rattle.std.proofs.Common.{◌≡◌, ℕ, ◌*◌, length, replicate, false, sym, ◌∙◌, ap, arith}
 use Rattle.std.proofs.lemmas.List.{length-replicate}
 use Rattle.copy_space.specs.declared.marks.Mark.TheVariants.{Fresh}
 use Rattle.pin_set.specs.Starts.{Starts}
