@@ -1,6 +1,6 @@
 //! A sink in memory, whose failing calls are listed beforehand.
 
-ghost use Rattle.std.specs.Prelude.{◌≡◌, ◌≤◌, ◌<◌, ◌+◌, ◌++◌, ◌↔◌, [], Some, length, take, vec_len, vec_capacity, IfOk, OnErr, IsErr};
+ghost use Rattle.std.specs.Prelude.{◌≡◌, ◌≤◌, ◌<◌, ◌+◌, ◌++◌, ◌↔◌, [], Some, length, take, vec_len, vec_capacity, IfOk, OnOk, OnErr, IsErr};
 ghost use Rattle.heap_io.specs.Streams.{Rose, Grew};
 ghost use Rattle.heap_io.specs.Memory.{appended, sink_after, sink_failed, SinkFails};
 
@@ -85,6 +85,7 @@ impl Sink for MemorySink {
             Grew (Some self.old.bytes) (Some self.new.bytes) (take k piece.now)) }
         ensures failed { OnErr result (Rose self.old.faults self.new.faults) }
         ensures kept { OnErr result (Some self.new.bytes ≡ Some self.old.bytes) }
+        ensures quiet { OnOk result (self.new.faults ≡ self.old.faults) }
         ensures counted { self.old.faults ≤ self.new.faults }
 
         // Exactly which calls fail, and how many bytes the others append.

@@ -1,6 +1,6 @@
 //! A source in memory, whose failing calls are listed beforehand.
 
-ghost use Rattle.std.specs.Prelude.{◌≡◌, ◌≤◌, ◌<◌, ◌++◌, ◌↔◌, min, ℕ, List, [], Some, length, take, drop, IfOk, OnErr, IsErr, Contains};
+ghost use Rattle.std.specs.Prelude.{◌≡◌, ◌≤◌, ◌<◌, ◌++◌, ◌↔◌, min, ℕ, List, [], Some, length, take, drop, IfOk, OnOk, OnErr, IsErr, Contains};
 ghost use Rattle.heap_io.specs.Streams.{Rose, Gave};
 ghost use Rattle.heap_io.specs.Memory.{passed, source_after, source_failed};
 
@@ -67,6 +67,7 @@ impl Source for MemorySource {
             (xs : List ℕ) → Some self.old.left ≡ Some xs → (k ≡ 0) ↔ (xs ≡ [])) }
         ensures failed { OnErr result (Rose self.old.faults self.new.faults) }
         ensures kept { OnErr result (Some self.new.left ≡ Some self.old.left) }
+        ensures quiet { OnOk result (self.new.faults ≡ self.old.faults) }
         ensures counted { self.old.faults ≤ self.new.faults }
 
         // Exactly which calls fail, how many bytes the others pass, and what stands in the buffer

@@ -46,7 +46,8 @@ const PIECE: usize = 16_384;
 const FIRST_ROOM: usize = 262_144;
 
 /// Reads the source to the end of its input, at most `limit` bytes. The work is linear in the
-/// bytes. After an error some bytes were taken, and are lost.
+/// bytes. After an error some bytes were taken, and are lost. A call that fails is not made again:
+/// where there is an answer, no call failed.
 pub fn read_all<S: Source>(alloc: Global, source: &mut S, limit: u64) -> Result<Vec<u8>, ReadFault>
     ensures whole { IfOk result (λ bytes.
         GaveAll (S.state source.old).contents (S.state source.new).contents bytes.items) }
@@ -59,6 +60,7 @@ pub fn read_all<S: Source>(alloc: Global, source: &mut S, limit: u64) -> Result<
         → GaveMore (S.state source.old).contents (S.state source.new).contents limit) }
     ensures at_most { IfErr result (λ fault. fault ≢ ReadFault.TooLong
         → GaveAtMost (S.state source.old).contents (S.state source.new).contents limit) }
+    ensures quiet { OnOk result ((S.state source.new).faults ≡ (S.state source.old).faults) }
     ensures counted { (S.state source.old).faults ≤ (S.state source.new).faults }
 {
     let mut piece = zeroes(alloc, PIECE)?;
@@ -89,6 +91,7 @@ fn read_pieces<S: Source>(
         → GaveMore (S.state source.old).contents (S.state source.new).contents limit) }
     ensures at_most { IfErr result (λ fault. fault ≢ ReadFault.TooLong
         → GaveAtMost (S.state source.old).contents (S.state source.new).contents limit) }
+    ensures quiet { OnOk result ((S.state source.new).faults ≡ (S.state source.old).faults) }
     ensures counted { (S.state source.old).faults ≤ (S.state source.new).faults }
 {
     let mut bytes = Vec::with_capacity(alloc, FIRST_ROOM)?;
@@ -118,6 +121,7 @@ fn take_piece<S: Source>(
         → GaveMore (S.state source.old).contents (S.state source.new).contents (limit - vec_len bytes.old)) }
     ensures at_most { IfErr result (λ fault. fault ≢ ReadFault.TooLong
         → GaveAtMost (S.state source.old).contents (S.state source.new).contents (limit - vec_len bytes.old)) }
+    ensures quiet { OnOk result ((S.state source.new).faults ≡ (S.state source.old).faults) }
     ensures counted { (S.state source.old).faults ≤ (S.state source.new).faults }
 {
     let k = source.take(piece)?;

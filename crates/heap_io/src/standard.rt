@@ -34,6 +34,7 @@ impl<R: Read> Source for StdSource<R> {
         requires { 0 < length buf.old }
         ensures bound { IfOk result (λ k. k ≤ length buf.new) }
         ensures failed { OnErr result (Rose self.old.faults self.new.faults) }
+        ensures quiet { OnOk result (self.new.faults ≡ self.old.faults) }
         ensures counted { self.old.faults ≤ self.new.faults }
 
         // It passes on what the reader gives, and counts each error once.
@@ -41,7 +42,6 @@ impl<R: Read> Source for StdSource<R> {
             Consumes (R.remaining self.old.reader) (R.remaining self.new.reader) (take k buf.new)) }
         ensures ended { IfOk result (λ k. k ≡ 0 → IsAtEnd (R.remaining self.new.reader)) }
         ensures counts { OnErr result (self.new.faults ≡ next_count self.old.faults) }
-        ensures same { OnOk result (self.new.faults ≡ self.old.faults) }
     {
         match self.reader.read(buf) {
             Ok(k) => Ok(k),
@@ -80,6 +80,7 @@ impl<W: Write> Sink for StdSink<W> {
         ensures some { IfOk result (λ k. 0 < k) }
         ensures bound { IfOk result (λ k. k ≤ length piece.now) }
         ensures failed { OnErr result (Rose self.old.faults self.new.faults) }
+        ensures quiet { OnOk result (self.new.faults ≡ self.old.faults) }
         ensures counted { self.old.faults ≤ self.new.faults }
 
         // It passes on what the writer takes, and counts each error and each call that takes
@@ -87,7 +88,6 @@ impl<W: Write> Sink for StdSink<W> {
         ensures passed { IfOk result (λ k.
             Appends (W.contents self.old.writer) (W.contents self.new.writer) (take k piece.now)) }
         ensures counts { OnErr result (self.new.faults ≡ next_count self.old.faults) }
-        ensures same { OnOk result (self.new.faults ≡ self.old.faults) }
     {
         match self.writer.write(piece) {
             Ok(k) if k > 0 => Ok(k),

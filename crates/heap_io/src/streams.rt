@@ -1,6 +1,6 @@
 //! The two traits and their errors.
 
-ghost use Rattle.std.specs.Prelude.{⊤, ◌≡◌, ◌≤◌, ◌<◌, ◌↔◌, ℕ, List, [], Some, length, take, IfOk, OnErr};
+ghost use Rattle.std.specs.Prelude.{⊤, ◌≡◌, ◌≤◌, ◌<◌, ◌↔◌, ℕ, List, [], Some, length, take, IfOk, OnOk, OnErr};
 ghost use Rattle.heap_io.specs.Streams.{Stream, Rose, Gave, Grew};
 
 use std::alloc::AllocError;
@@ -32,7 +32,7 @@ pub trait Source {
 
     /// Puts the next bytes of the input at the front of the buffer and answers how many, at least
     /// one unless the input has ended. What stands behind them in the buffer is open, and so is the
-    /// buffer after a failure. A failure takes nothing.
+    /// buffer after a failure. A failure takes nothing, and no other call is counted.
     fn take(&mut self, buf: &mut [u8]) -> Result<usize, Failed>
         requires { 0 < length buf.old }
         ensures bound { IfOk result (λ k. k ≤ length buf.new) }
@@ -42,6 +42,7 @@ pub trait Source {
             (xs : List ℕ) → (state self.old).contents ≡ Some xs → (k ≡ 0) ↔ (xs ≡ [])) }
         ensures failed { OnErr result (Rose (state self.old).faults (state self.new).faults) }
         ensures kept { OnErr result ((state self.new).contents ≡ (state self.old).contents) }
+        ensures quiet { OnOk result ((state self.new).faults ≡ (state self.old).faults) }
         ensures counted { (state self.old).faults ≤ (state self.new).faults };
 }
 
@@ -52,7 +53,7 @@ pub trait Sink {
     ghost state: { Self → Stream };
 
     /// Appends the front of the piece and answers how many bytes, at least one. A failure appends
-    /// nothing.
+    /// nothing, and no other call is counted.
     fn put(&mut self, piece: &[u8]) -> Result<usize, Failed>
         requires { 0 < length piece.now }
         ensures some { IfOk result (λ k. 0 < k) }
@@ -61,5 +62,6 @@ pub trait Sink {
             Grew (state self.old).contents (state self.new).contents (take k piece.now)) }
         ensures failed { OnErr result (Rose (state self.old).faults (state self.new).faults) }
         ensures kept { OnErr result ((state self.new).contents ≡ (state self.old).contents) }
+        ensures quiet { OnOk result ((state self.new).faults ≡ (state self.old).faults) }
         ensures counted { (state self.old).faults ≤ (state self.new).faults };
 }

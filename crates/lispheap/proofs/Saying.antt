@@ -63,7 +63,10 @@ second_stopped a b x y z first second said s =
 
 -- both pieces were said
 pub both_said : (a b : List ℕ) (x y z : Stream) → SaysAll a (change x y) → SaysAll b (change y z) → SaysAll (a ++ b) (change x z)
-both_said a b x y z first second = record { appended = grew_twice x.contents y.contents z.contents a b first.appended second.appended }
+both_said a b x y z first second = record {
+  appended = grew_twice x.contents y.contents z.contents a b first.appended second.appended;
+  quiet = second.quiet ∙ first.quiet;
+}
 
 -- a fact holds at an error, whatever the result
 pub at_err : {A E : Type 0} {P : Type 0} (r : Result A E) → P → OnErr r P

@@ -24,8 +24,9 @@ asks_for_steps words = nat_lt 1 (length words)
 abbrev pub input_limit : ℕ
 input_limit = MOST_BYTES
 
--- the source was read to its end, and these were its bytes, not too many
+-- the source was read to its end, no call of it failed, and these were its bytes, not too many
 pub record IsInput (source : Change) (bytes : List ℕ) : Type 0 where
+  pub quiet : source.new.faults ≡ source.old.faults
   pub whole : GaveAll source.old.contents source.new.contents bytes
   pub within : length bytes ≤ input_limit
 

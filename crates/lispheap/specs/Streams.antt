@@ -19,9 +19,10 @@ pub record IsUntouched (c : Change) : Type 0 where
 abbrev pub Failed : Change → Type 0
 Failed c = Rose c.old.faults c.new.faults
 
--- a text was appended to a stream, all of it
+-- a text was appended to a stream, all of it, and no call of the stream failed
 pub record SaysAll (text : List ℕ) (c : Change) : Type 0 where
   pub appended : Grew c.old.contents c.new.contents text
+  pub quiet : c.new.faults ≡ c.old.faults
 
 -- a stream stopped within a text: a proper front of it was appended, and the count of faults rose
 pub record StopsWithin (text : List ℕ) (c : Change) : Type 0 where

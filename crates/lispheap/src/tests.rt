@@ -414,6 +414,17 @@ fn streams_that_fail_stop_the_program(rt: HostRuntime) -> Result<(), Fail> {
             FIRST_JOURNAL,
             "",
         ),
+        // A journal of ten lines is one call, so the second, which would fail, is never made.
+        (
+            Streams {
+                most: 1_000_000,
+                source_fails: &[],
+                out_fails: &[1],
+            },
+            0,
+            FIRST_JOURNAL,
+            "",
+        ),
     ] {
         let got = outcome_of(rt.alloc(), &["replay"], FIRST.as_bytes(), streams)?;
         assert_eq!(rt; got.status, status);

@@ -1,4 +1,4 @@
-use Rattle.std.proofs.Common.{◌≤◌, ◌<◌, ◌+◌, ◌-◌, length, vec_len}
+use Rattle.std.proofs.Common.{◌≡◌, ◌≤◌, ◌<◌, ◌+◌, ◌-◌, length, vec_len}
 use Rattle.heap_io.specs.Streams.{Gave}
 use Rattle.heap_io.proofs.reading.read_pieces.Given as goal
 
@@ -7,7 +7,7 @@ invariant-loop-bytes g l = record {
   room : 0 < length l.piece;
   within : vec_len l.bytes ≤ l.limit;
   gave : Gave (g.S.Source.state l.initial.source).contents (g.S.Source.state l.source).contents l.bytes.items;
-  counted : (g.S.Source.state l.initial.source).faults ≤ (g.S.Source.state l.source).faults;
+  quiet : (g.S.Source.state l.source).faults ≡ (g.S.Source.state l.initial.source).faults;
 }
 
 abbrev pub decreases-loop-bytes : goal.decreases-loop-bytes

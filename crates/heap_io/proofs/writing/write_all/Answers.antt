@@ -1,4 +1,4 @@
-use Rattle.std.proofs.Common.{◌≡◌, ◌-◌, length, take, drop, arith}
+use Rattle.std.proofs.Common.{◌≡◌, ◌∙◌, ◌-◌, length, take, drop, arith}
 use Rattle.std.proofs.Math.Seq.{take-add}
 use Rattle.heap_io.proofs.StreamLemmas.{Grew-Grew, take-drop_rest}
 use Rattle.heap_io.proofs.writing.write_all.Goals as goal
@@ -13,6 +13,6 @@ loop-written-preserved g c =
     record {
       within = grind arith;
       appended = rw (take-add n c.in-Ok.k bytes) (Grew-Grew _ _ _ _ _ so_far.appended more);
-      counted = omega arith;
+      quiet = c.in-Ok.ensures.quiet ∙ so_far.quiet;
       untouched = λ h. absurd (omega (arith, c.in-Ok.ensures.some));
     }

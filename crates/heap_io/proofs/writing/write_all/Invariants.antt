@@ -6,7 +6,7 @@ abbrev pub invariant-loop-written : goal.invariant-loop-written
 invariant-loop-written g l = record {
   within : l.written ≤ length l.bytes;
   appended : Grew (g.K.Sink.state l.initial.sink).contents (g.K.Sink.state l.sink).contents (take l.written l.bytes);
-  counted : (g.K.Sink.state l.initial.sink).faults ≤ (g.K.Sink.state l.sink).faults;
+  quiet : (g.K.Sink.state l.sink).faults ≡ (g.K.Sink.state l.initial.sink).faults;
   untouched : l.written ≡ 0 → l.sink ≡ l.initial.sink;
 }
 
