@@ -1,5 +1,5 @@
 -- Weak pointers to what is not settled become broken.
-use Rattle.std.specs.Prelude.{◌≡◌, ℕ, ◌+◌, ◌≤◌, List, map, filter, length, slice_index, slice_set, vec_len, vec_capacity, Some, Bool, true, not, if◌then◌else◌, ◌++◌, ◌∷◌, []}
+use Rattle.std.specs.Prelude.{◌≡◌, ℕ, ◌+◌, ◌≤◌, List, length, slice_index, slice_set, vec_len, vec_capacity, Some, true, not, if◌then◌else◌, ◌++◌, ◌∷◌, []}
 use Rattle.heap_terms.specs.declared.cells.Value.{Value}
 use Rattle.heap_terms.specs.declared.kinds.Kind.TheVariants as kinds
 use Rattle.heap_terms.specs.Heap.{NamedHeap, object_at}

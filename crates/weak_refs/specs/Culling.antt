@@ -1,15 +1,14 @@
 -- Pairs of which a side that they hang on is not settled are taken out of their tables. A pair is taken out by the rule of
 -- its table's weakness; what is said here of one table holds where every pair keeps what its weakness says.
-use Rattle.std.specs.Prelude.{◌≡◌, ℕ, ◌+◌, ◌*◌, ◌<◌, ◌≤◌, ◌⊎◌, ◌&&◌, List, [], ◌∷◌, ◌++◌, map, filter, flat_map, take, length, slice_index, slice_set, vec_len, vec_capacity, Some, Bool, false, not, if◌then◌else◌}
+use Rattle.std.specs.Prelude.{◌≡◌, ℕ, ◌+◌, ◌*◌, ◌<◌, ◌≤◌, ◌⊎◌, ◌&&◌, List, [], ◌∷◌, ◌++◌, map, filter, take, length, slice_index, slice_set, vec_len, vec_capacity, Some, Bool, false, not, if◌then◌else◌}
 use Rattle.heap_terms.specs.declared.cells.Value.{Value}
-use Rattle.heap_terms.specs.declared.events.Cull.{Cull}
 use Rattle.heap_terms.specs.declared.kinds.Kind.TheVariants as kinds
 use Rattle.heap_terms.specs.declared.kinds.Weakness.{Weakness}
 use Rattle.heap_terms.specs.Heap.{NamedHeap, object_at}
 use Rattle.heap_terms.specs.Layout.{unbound_word}
 use Rattle.heap_terms.specs.Live.{is_live, Keeps, KeepPairs}
 use Rattle.heap_terms.specs.Objects.{Object, words_of_object}
-use Rattle.heap_terms.specs.Survival.{is_kept, culls_in}
+use Rattle.heap_terms.specs.Survival.{is_kept}
 use Rattle.copy_space.specs.declared.notes.CullNote.{CullNote}
 use Rattle.copy_space.specs.declared.notes.PassNotes.{PassNotes}
 use Rattle.copy_space.specs.Midway.{IsPlacedSoFar}

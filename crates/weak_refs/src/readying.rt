@@ -37,9 +37,12 @@ pub fn ready_entries(weak: &PinSet, copier: &mut Copier, waiting: &mut Waiting) 
     ensures same { IsSameCopier copier.old copier.new }
 {
     let before = copier.notes().moves.len();
-    ready_waiting(weak, copier, waiting);
+    let whole = ready_waiting(weak, copier, waiting);
     if copier.notes().moves.len() > before {
         return true;
+    }
+    if whole {
+        return false;
     }
     ready_all(weak, copier, waiting, 0, Look::Forget);
     copier.notes().moves.len() > before
@@ -55,11 +58,13 @@ enum Look {
 }
 
 /// Goes through the tables that were listed since the last time, and through the pairs that wait for
-/// what was moved since then.
-fn ready_waiting(weak: &PinSet, copier: &mut Copier, waiting: &mut Waiting)
+/// what was moved since then. The answer says whether these were all tables, and no pair waits: then,
+/// where nothing was settled, there is no more to look at.
+fn ready_waiting(weak: &PinSet, copier: &mut Copier, waiting: &mut Waiting) -> bool
     ghost a: { NamedHeap }
     requires { CanReady a (state copier.old) weak.now.listed }
     ensures readies { Readies a (state copier.old) (state copier.new) }
+    ensures ready { result ≡ true → HasSameMoves (state copier.old) (state copier.new) → AreReady a (state copier.new) weak.now.listed (length weak.now.listed) }
     ensures same { IsSameCopier copier.old copier.new }
 {
     let met = waiting.met;
@@ -67,7 +72,9 @@ fn ready_waiting(weak: &PinSet, copier: &mut Copier, waiting: &mut Waiting)
     ready_all(weak, copier, waiting, met, Look::Wait);
     if waiting.any {
         release(weak, copier, waiting);
+        return false;
     }
+    met == 0
 }
 
 /// Goes through all tables from a number on.
@@ -111,13 +118,16 @@ fn ready_table(copier: &mut Copier, waiting: &mut Waiting, look: Look, start: u3
     for pair in 0..count {
         let key = copier.space().read(start + PAIRS + 2 * pair);
         let value = copier.space().read(start + PAIRS + 2 * pair + 1);
-        ready_pair(copier, weakness, key, value);
-        let side = number.saturating_mul(SIDES).saturating_add(2 * pair);
-        note_pair(copier, waiting, look, weakness, key, value, side);
+        if ready_pair(copier, weakness, key, value) {
+            let side = number.saturating_mul(SIDES).saturating_add(2 * pair);
+            note_pair(copier, waiting, look, weakness, key, value, side);
+        }
     }
 }
 
 /// Lets the sides of a pair wait that hang on what is not settled, or forgets them.
+#[cold]
+#[inline(never)]
 fn note_pair(
     copier: &Copier,
     waiting: &mut Waiting,
@@ -172,8 +182,10 @@ pub(crate) fn weakness_from(word: u64) -> Weakness
     }
 }
 
-/// Settles of a pair, given by the words of key and value, what a weakness keeps.
-pub(crate) fn ready_pair(copier: &mut Copier, weakness: Weakness, key: u64, value: u64)
+/// Settles of a pair, given by the words of key and value, what a weakness keeps. The answer says
+/// whether the pair hangs on a side that is not settled.
+#[inline(always)]
+pub(crate) fn ready_pair(copier: &mut Copier, weakness: Weakness, key: u64, value: u64) -> bool
     ghost a: { NamedHeap }
     requires { CanReadyPair a (state copier.old) weakness key value }
     ensures readies { Readies a (state copier.old) (state copier.new) }
@@ -185,19 +197,22 @@ pub(crate) fn ready_pair(copier: &mut Copier, weakness: Weakness, key: u64, valu
         Weakness::Strong => {
             settle_side(copier, key);
             settle_side(copier, value);
+            false
         }
         Weakness::Key => follow(copier, key, value),
         Weakness::Value => follow(copier, value, key),
-        Weakness::KeyAndValue => {}
+        Weakness::KeyAndValue => false,
         Weakness::KeyOrValue => {
-            follow(copier, key, value);
-            follow(copier, value, key);
+            let key_open = follow(copier, key, value);
+            let value_open = follow(copier, value, key);
+            key_open | value_open
         }
     }
 }
 
-/// Settles a side where another one is settled.
-fn follow(copier: &mut Copier, other: u64, side: u64)
+/// Settles a side where another one is settled. The answer says whether it is not.
+#[inline(always)]
+fn follow(copier: &mut Copier, other: u64, side: u64) -> bool
     ghost a: { NamedHeap }
     requires { CanFollow a (state copier.old) other side }
     ensures readies { Readies a (state copier.old) (state copier.new) }
@@ -207,12 +222,30 @@ fn follow(copier: &mut Copier, other: u64, side: u64)
 {
     if copier.is_placed(other) {
         settle_side(copier, side);
+        return false;
     }
+    true
 }
 
 /// Settles a side. Its word stays the one before the pass until tables are culled.
 #[inline(always)]
 fn settle_side(copier: &mut Copier, side: u64)
+    ghost a: { NamedHeap }
+    requires { CanSettleSide a (state copier.old) side }
+    ensures readies { Readies a (state copier.old) (state copier.new) }
+    ensures settled { (v : Value) → IsWordOf a (state copier.old) v side → is_live (is_settled a (state copier.new)) v ≡ true }
+    ensures same { IsSameCopier copier.old copier.new }
+{
+    if copier.is_placed(side) {
+        return;
+    }
+    settle_fresh(copier, side);
+}
+
+/// The same of a side that may not be settled yet.
+#[cold]
+#[inline(never)]
+fn settle_fresh(copier: &mut Copier, side: u64)
     ghost a: { NamedHeap }
     requires { CanSettleSide a (state copier.old) side }
     ensures readies { Readies a (state copier.old) (state copier.new) }

@@ -22,12 +22,12 @@ follow-requires g c = value-follows g.a (state c.args.copier.now) c.args.weaknes
 pub follow-requires-in-Value : goal.follow-requires-in-Value
 follow-requires-in-Value g c = key-follows g.a (state c.args.copier.now) c.args.weakness c.args.key c.args.value c.requires c.in-Value.is
 
-pub follow-requires-in-KeyOrValue : goal.follow-requires-in-KeyOrValue
-follow-requires-in-KeyOrValue g c = or-first g.a (state c.args.copier.now) c.args.weakness c.args.key c.args.value c.requires c.in-KeyOrValue.is
+pub follow-key_open-requires : goal.follow-key_open-requires
+follow-key_open-requires g c = or-first g.a (state c.args.copier.now) c.args.weakness c.args.key c.args.value c.requires c.in-KeyOrValue.is
 
-pub follow-requires-in-KeyOrValue-2 : goal.follow-requires-in-KeyOrValue-2
-follow-requires-in-KeyOrValue-2 g c =
-    or-second g.a (state c.args.copier.now) c.args.weakness c.args.key c.args.value c.requires c.in-KeyOrValue.is (state c.follow-in-KeyOrValue.new.copier) c.follow-in-KeyOrValue.ensures.readies
+pub follow-value_open-requires : goal.follow-value_open-requires
+follow-value_open-requires g c =
+    or-second g.a (state c.args.copier.now) c.args.weakness c.args.key c.args.value c.requires c.in-KeyOrValue.is (state c.follow-key_open.new.copier) c.follow-key_open.ensures.readies
 
 pub returns-in-Strong-clause-readies : goal.returns-in-Strong-clause-readies
 returns-in-Strong-clause-readies g c =
@@ -58,23 +58,23 @@ returns-in-Value-clause-ready g c = λ u v hu hv same.
 
 pub returns-in-KeyOrValue-clause-readies : goal.returns-in-KeyOrValue-clause-readies
 returns-in-KeyOrValue-clause-readies g c =
-    readies-on g.a (state c.args.copier.now) (state c.follow-in-KeyOrValue.new.copier) (state c.follow-in-KeyOrValue-2.new.copier) c.follow-in-KeyOrValue.ensures.readies c.follow-in-KeyOrValue-2.ensures.readies
+    readies-on g.a (state c.args.copier.now) (state c.follow-key_open.new.copier) (state c.follow-value_open.new.copier) c.follow-key_open.ensures.readies c.follow-value_open.ensures.readies
 
 pub returns-in-KeyOrValue-clause-ready : goal.returns-in-KeyOrValue-clause-ready
 returns-in-KeyOrValue-clause-ready g c = λ u v hu hv same.
     (let s = state c.args.copier.now in
-    let t = state c.follow-in-KeyOrValue.new.copier in
-    let z = state c.follow-in-KeyOrValue-2.new.copier in
-    let h = c.follow-in-KeyOrValue.ensures.readies in
-    let k = c.follow-in-KeyOrValue-2.ensures.readies in
+    let t = state c.follow-key_open.new.copier in
+    let z = state c.follow-value_open.new.copier in
+    let h = c.follow-key_open.ensures.readies in
+    let k = c.follow-value_open.ensures.readies in
     let one = same-first g.a s t z h k same in
     let two = same-second g.a s t z h k same in
     ready-as c.args.weakness weaknesses.KeyOrValue (is_live (is_settled g.a z) u) (is_live (is_settled g.a z) v) c.in-KeyOrValue.is (
-      (λ live. live-stays g.a t z k.goes.grows v (c.follow-in-KeyOrValue.ensures.ready u v hu hv one
+      (λ live. live-stays g.a t z k.goes.grows v (c.follow-key_open.ensures.ready u v hu hv one
           (subst (λ (f : ℕ → Bool). is_live f u ≡ true) (same-set g.a t z h.midway k two) live))),
-      c.follow-in-KeyOrValue-2.ensures.ready v u (word-of-stays g.a s t h.goes.grows v c.args.value hv) (word-of-stays g.a s t h.goes.grows u c.args.key hu) two,
+      c.follow-value_open.ensures.ready v u (word-of-stays g.a s t h.goes.grows v c.args.value hv) (word-of-stays g.a s t h.goes.grows u c.args.key hu) two,
     ))
 
 pub returns-in-KeyOrValue-clause-same : goal.returns-in-KeyOrValue-clause-same
 returns-in-KeyOrValue-clause-same g c =
-    same-on c.args.copier.now c.follow-in-KeyOrValue.new.copier c.follow-in-KeyOrValue-2.new.copier c.follow-in-KeyOrValue.ensures.same c.follow-in-KeyOrValue-2.ensures.same
+    same-on c.args.copier.now c.follow-key_open.new.copier c.follow-value_open.new.copier c.follow-key_open.ensures.same c.follow-value_open.ensures.same

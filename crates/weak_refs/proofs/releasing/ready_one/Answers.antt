@@ -1,5 +1,5 @@
 -- The pair is one of the table's.
-use Rattle.std.proofs.Common.{◌≡◌, ◌+◌, ◌*◌, ◌<◌, length, ◌∙◌, arith}
+use Rattle.std.proofs.Common.{◌≡◌, ◌+◌, ◌*◌, ◌∙◌, arith}
 use Rattle.std.specs.Prelude.{slice_index}
 use Rattle.copy_space.specs.State.{state}
 use Rattle.weak_refs.proofs.Readies.{readies-same}

@@ -1,8 +1,6 @@
 -- One move more.
-use Rattle.std.proofs.Common.{◌≡◌, ◌<◌, length, arith}
 use Rattle.copy_space.specs.State.{state}
 use Rattle.scavenge.proofs.Frames.{same-on, same-self}
-use Rattle.scavenge.proofs.QueueLaws.{moves-most}
 use Rattle.weak_refs.proofs.Readies.{readies-on, readies-same, ready-later}
 use Rattle.weak_refs.proofs.releasing.release.Goals as goal
 
