@@ -1,4 +1,5 @@
 pub mod Pointing
+pub mod Beyond
 pub mod Counting
 pub mod Fitting
 pub mod Along

@@ -12,7 +12,7 @@ ghost use Rattle.ambiguous_roots.specs.HitStarts.{AreHitStarts, CanFindPins};
 ghost use Rattle.ambiguous_roots.specs.Pinning.{is_referred, referred, CanPinAll, is_walked, CanPinPages, AreHitBefore, how_many_before};
 
 use crate::hints::Hints;
-use heap_terms::Entry;
+use heap_terms::{Entry, MOST_PAGES};
 use lisp_words::tag;
 use object_walk::{Found, PageWalk};
 use page_table::PageTable;
@@ -58,8 +58,9 @@ fn pin_pages(
     ensures most { pins.new.most ≡ pins.old.most }
     ensures count { result ≡ how_many_before a generation (page_words * length pages.now) }
 {
+    prove!(pages.len() <= MOST_PAGES);
     let mut count = 0;
-    for page in 0..pages.len() {
+    for page in 0..pages.used_end() {
         if is_walked(pages.entry(page), page, generation) {
             count += pin_page(space, pages, page, ambiguous, hints, pins);
         }

@@ -1,7 +1,7 @@
 -- Sweeping one page after another.
-use Rattle.std.proofs.Common.{◌≡◌, ℕ, zero, suc, ◌+◌, ◌*◌, ◌/◌, ◌<◌, ◌≤◌, List, [], ◌∷◌, ◌++◌, length, get_or, set, map, Bool, inl, inr, refl, sym, ◌∙◌, ap, subst, cond, arith}
-use Rattle.std.proofs.lemmas.Bool.{cases_lt, cases_eq, cases_Bool}
-use Rattle.std.proofs.lemmas.List.{length-set, get_or-set_same, get_or-set_other, get_or-map, length-map, get_or_past, ext_get_or}
+use Rattle.std.proofs.Common.{◌≡◌, ℕ, zero, suc, ◌+◌, ◌*◌, ◌/◌, ◌<◌, ◌≤◌, List, [], ◌∷◌, ◌++◌, length, get_or, set, map, Bool, true, inl, inr, refl, sym, ◌∙◌, ap, subst, cond, arith}
+use Rattle.std.proofs.lemmas.Bool.{cases_lt, cases_eq, cases_Bool, false≢true}
+use Rattle.std.proofs.lemmas.List.{length-set, get_or-set_same, get_or-set_other, get_or-map, length-map, get_or_past, ext_get_or, append-nil}
 use Rattle.std.proofs.lemmas.List.Elements.{filter-append}
 use Rattle.std.proofs.lemmas.List.Sums.{length-filter, count_by-le-length}
 use Rattle.std.proofs.lemmas.List.FromFn.{length-range_with_len}
@@ -10,6 +10,7 @@ use Rattle.std.specs.Prelude.{slice_index, filter}
 use Rattle.heap_terms.specs.declared.pages.Entry.{Entry}
 use Rattle.heap_terms.specs.declared.pages.Entry.TheVariants.{Free, Used}
 use Rattle.heap_terms.specs.Heap.{entry_at, fill_of}
+use Rattle.heap_terms.specs.Regions.{is_free}
 use Rattle.copy_space.specs.Moved.{new_of}
 use Rattle.copy_space.proofs.Referents.{its}
 use Rattle.page_sweep.specs.declared.sweeping.Traced.{Traced}
@@ -106,6 +107,44 @@ module _ (at : Tracing) (t : Traced) (words : List ℕ) (pages : List Entry) (ca
       rest = λ p from. ap (λ (es : List Entry). entry_at es p) entry ∙ get_or-set_other table page p (swept (entry_at at.state.pages page)) Free (λ same. omega (arith, same)) ∙ u.rest p (omega arith);
       freed_are = more_is ∙ ap (λ (xs : List ℕ). xs ++ cond (freed page) (page ∷ []) []) u.freed_are ∙ sym (range_more page);
     }
+
+  -- a free page is swept as it is
+  free-swept : (e : Entry) → is_free e ≡ true → swept e ≡ Free
+  free-swept Free free = refl
+  free-swept (Used ty g fill first k) free = absurd (false≢true free)
+
+  free-kept : (e : Entry) → is_free e ≡ true → e ≡ Free
+  free-kept Free free = refl
+  free-kept (Used ty g fill first k) free = absurd (false≢true free)
+
+  one-free : (now : List ℕ) (table : List Entry) (list : List ℕ) (page : ℕ) → IsSweptUpTo at t.target now table list page → is_free (entry_at at.state.pages page) ≡ true →
+      IsSweptUpTo at t.target now table list (page + 1)
+  one-free now table list page u free =
+      let is : entry_at at.state.pages page ≡ Free = free-kept (entry_at at.state.pages page) free in
+      let after : swept (entry_at at.state.pages page) ≡ Free = free-swept (entry_at at.state.pages page) free in
+      record {
+        keeps = u.keeps;
+        behind = λ i from. u.behind i (omega arith);
+        clean = λ p less. (elim (cases_eq p page) [
+          | inl same ↦ (λ i within open_word. absurd (let none : i < 0 = subst (λ (e : Entry). i < fill_of e) (ap (λ (q : ℕ). swept (entry_at at.state.pages q)) same ∙ after) within in omega (arith, none)))
+          | inr apart ↦ u.clean p (omega (arith, less, apart))
+        ]);
+        long = u.long;
+        done = λ p less. (elim (cases_eq p page) [
+          | inl same ↦ u.rest p (omega (arith, same)) ∙ ap (entry_at at.state.pages) same ∙ is ∙ sym (ap (λ (q : ℕ). swept (entry_at at.state.pages q)) same ∙ after)
+          | inr apart ↦ u.done p (omega (arith, less, apart))
+        ]);
+        rest = λ p from. u.rest p (omega arith);
+        freed_are = u.freed_are ∙ sym (range_more page ∙ ap (λ (b : Bool). filter freed (range_with_len 0 page) ++ cond b (page ∷ []) []) (ap (λ (e : Entry). is_freed at.state.pins at.state.moves at.state.pass.generation e) is)
+            ∙ append-nil (filter freed (range_with_len 0 page)));
+      }
+
+  pub swept-beyond : (now : List ℕ) (table : List Entry) (list : List ℕ) (end : ℕ) → ((p : ℕ) → end ≤ p → is_free (entry_at at.state.pages p) ≡ true) →
+      IsSweptUpTo at t.target now table list end → (k : ℕ) → IsSweptUpTo at t.target now table list (end + k)
+  swept-beyond now table list end free u zero = (let same : end ≡ end + 0 = omega arith in subst (IsSweptUpTo at t.target now table list) same u)
+  swept-beyond now table list end free u (suc k) =
+      let same : end + k + 1 ≡ end + suc k = omega arith in
+      subst (IsSweptUpTo at t.target now table list) same (one-free now table list (end + k) (swept-beyond now table list end free u k) (free (end + k) (omega arith)))
 
   -- no more pages are listed than were swept
   pub listed-most : (now : List ℕ) (table : List Entry) (list : List ℕ) (page : ℕ) → IsSweptUpTo at t.target now table list page → length list ≤ page

@@ -8,12 +8,11 @@ use Rattle.heap_terms.specs.declared.kinds.PageType.{PageType}
 use Rattle.heap_terms.specs.declared.pages.Entry.{Entry}
 use Rattle.heap_terms.specs.declared.pages.Entry.TheVariants.{Free, Used}
 use Rattle.heap_terms.specs.Heap.{NamedHeap, object_at, entry_at, fill_of}
-use Rattle.heap_terms.specs.Layout.{filler_word, header_of, page_type_of}
+use Rattle.heap_terms.specs.Layout.{filler_word, page_type_of}
 use Rattle.heap_terms.specs.Objects.{Object, kind_of, payload_of, words_of_object}
 use Rattle.heap_terms.specs.OnPages.{IsOwned, IsOnPage, IsPageOfRun, IsPlaced, IsEntry}
 use Rattle.heap_terms.specs.Placement.{scratch}
 use Rattle.heap_terms.specs.Regions.{is_small}
-use Rattle.heap_terms.specs.Slots.{Raw}
 use Rattle.pass_laws.proofs.Landing.{used_inside}
 use Rattle.pass_laws.proofs.Sizes.{words_least, words_even, large_least, large_needs}
 use Rattle.copy_space.specs.Marks.{mark_at}
@@ -23,7 +22,7 @@ use Rattle.copy_space.specs.Settled.{is_settled}
 use Rattle.copy_space.specs.State.{CopyState}
 use Rattle.copy_space.proofs.Places.{now_even, now_apart}
 use Rattle.copy_space.proofs.Referents.{ms, its}
-use Rattle.copy_space.proofs.Shapes.{header_leads, payload-most}
+use Rattle.copy_space.proofs.Shapes.{payload-most}
 use Rattle.page_sweep.specs.Swept.{remaining_now}
 use Rattle.page_sweep.specs.Wiping.{Tracing, lies_there, IsSizedAt, KeepsSettled, CanWipe, IsWiped}
 use Rattle.page_sweep.proofs.Remaining.{owned-now, LiesThere, LyingAt, lies-there, lying-at}

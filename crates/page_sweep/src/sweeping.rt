@@ -74,7 +74,7 @@ fn sweep_pages(
     ensures swept { IsSwept at.heap at.state traced.now.target space.new pages.new freed.new.items }
     ensures capacity { vec_capacity freed.new ≡ vec_capacity freed.old }
 {
-    for page in 0..pages.len() {
+    for page in 0..pages.used_end() {
         if sweep_page(space, pages, traced, held, page) {
             freed.push_reserved(page);
         }

@@ -1,10 +1,12 @@
 -- What an entry of eight bytes says.
-use Rattle.std.specs.Prelude.{ℕ, List, map, length, ◌≤◌}
+use Rattle.std.specs.Prelude.{◌≡◌, ℕ, List, map, length, ◌≤◌, true}
 use Rattle.heap_terms.specs.declared.kinds.PageType.{PageType}
 use Rattle.heap_terms.specs.declared.kinds.PageType.TheVariants as types
 use Rattle.heap_terms.specs.declared.pages.Entry.{Entry}
 use Rattle.heap_terms.specs.declared.pages.Entry.TheVariants as entries
 use Rattle.heap_terms.specs.declared.limits.TheConstants.{MOST_PAGES}
+use Rattle.heap_terms.specs.Heap.{entry_at}
+use Rattle.heap_terms.specs.Regions.{is_free}
 use Rattle.page_table.specs.declared.packed.Holds.{Holds}
 use Rattle.page_table.specs.declared.packed.Holds.TheVariants as holds
 use Rattle.page_table.specs.declared.packed.Packed.{Packed}
@@ -29,7 +31,9 @@ unpacked p = entry_with p.holds p.generation p.fill p.run_first p.run_pages
 abbrev pub unpacked_all : List Packed → List Entry
 unpacked_all ps = map unpacked ps
 
--- a table has 1 to 1,024 pages
-pub record IsTable (ps : List Packed) : Type 0 where
+-- a table has 1 to 1,024 pages, and from the page `end` on all of them are free
+pub record IsTable (ps : List Packed) (end : ℕ) : Type 0 where
   pub least : 1 ≤ length ps
   pub most : length ps ≤ MOST_PAGES
+  pub inside : end ≤ length ps
+  pub free : (p : ℕ) → end ≤ p → is_free (entry_at (unpacked_all ps) p) ≡ true

@@ -1,6 +1,6 @@
 //! The page table.
 
-ghost use Rattle.std.specs.Prelude.{◌≡◌, ℕ, ◌+◌, ◌*◌, ◌<◌, ◌≤◌, ◌++◌, ◌∷◌, false, length, take, drop, vec_len, replicate, slice_set, IfOk, IfSome, IfNone};
+ghost use Rattle.std.specs.Prelude.{◌≡◌, ℕ, ◌+◌, ◌*◌, ◌<◌, ◌≤◌, ◌++◌, ◌∷◌, true, false, length, take, drop, vec_len, replicate, slice_set, IfOk, IfSome, IfNone};
 ghost use Rattle.heap_terms.specs.declared.pages.Entry.TheVariants as entries;
 ghost use Rattle.heap_terms.specs.declared.limits.TheConstants.{MOST_PAGES, MOST_WORDS};
 ghost use Rattle.heap_terms.specs.Heap.{entry_at};
@@ -19,6 +19,8 @@ use std::marker::Model;
 #[derive(Drop)]
 pub struct PageTable {
     entries: Vec<Packed>,
+    /// From this page on all pages are free.
+    used_end: u32,
 }
 
 impl Model for PageTable {
@@ -31,7 +33,7 @@ impl Model for PageTable {
 
     ghost view = { λ t. unpacked_all t.entries.items };
 
-    ghost invariant = { λ t. IsTable t.entries.items };
+    ghost invariant = { λ t. IsTable t.entries.items t.used_end };
 }
 
 impl PageTable {
@@ -43,7 +45,10 @@ impl PageTable {
     {
         let mut entries = Vec::new(alloc);
         match entries.resize(pages as usize, Packed::free()) {
-            Ok(()) => Ok(PageTable { entries }),
+            Ok(()) => Ok(PageTable {
+                entries,
+                used_end: 0,
+            }),
             Err(_) => Err(Memory),
         }
     }
@@ -56,6 +61,17 @@ impl PageTable {
         ensures most { result ≤ MOST_PAGES }
     {
         self.entries.len() as u32
+    }
+
+    /// A page from which on all pages are free, at most `len`. It goes up where a run is taken, and
+    /// down again where the last page below it becomes free. Who goes over all pages in use may stop
+    /// there.
+    #[inline(always)]
+    pub fn used_end(&self) -> u32
+        ensures inside { result ≤ length self.now }
+        ensures free { (p : ℕ) → result ≤ p → is_free (entry_at self.now p) ≡ true }
+    {
+        self.used_end
     }
 
     /// The entry of a page.
@@ -96,6 +112,7 @@ impl PageTable {
         ensures opened { generation ≡ 0 → self.new ≡ with_run self.old first k ty }
     {
         fill_run(self.entries.as_mut_slice(), first, k, ty, generation);
+        self.used_end = self.used_end.max(first + k);
     }
 
     /// Says how many words of a page in use are used, at most 512.
@@ -124,6 +141,7 @@ impl PageTable {
         let full = entry.with_fill(PAGE_WORDS);
         let rest = entry.with_fill(size - PAGE_WORDS * last);
         write_run(self.entries.as_mut_slice(), first, last, full, rest);
+        self.used_end = self.used_end.max(first + last + 1);
     }
 
     /// Gives a page in use a generation. Its type, fill and run stay.
@@ -144,7 +162,24 @@ impl PageTable {
         ensures { self.new ≡ slice_set self.old p entries.Free }
     {
         self.entries[p as usize] = Packed::free();
+        self.used_end = used_below(self.entries.as_slice(), self.used_end);
     }
+}
+
+/// A page from which on all pages below `end` are free: the lowest one.
+fn used_below(entries: &[Packed], end: u32) -> u32
+    requires { end ≤ length entries.now }
+    ensures most { result ≤ end }
+    ensures free { (p : ℕ) → result ≤ p → p < end → is_free (entry_at (unpacked_all entries.now) p) ≡ true }
+{
+    let mut below = end;
+    while below > 0 {
+        if !entries[below as usize - 1].is_free() {
+            return below;
+        }
+        below -= 1;
+    }
+    0
 }
 
 /// How many pages an object of a size needs: a page, or a run of its own where it does not fit into

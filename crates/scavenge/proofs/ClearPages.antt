@@ -22,7 +22,8 @@ use Rattle.copy_space.specs.Settled.{IsNewWord, IsWordOf, word_before}
 use Rattle.copy_space.specs.State.{CopyState}
 use Rattle.copy_space.proofs.Referents.{its, same_word, out_of_generation, untagged}
 use Rattle.copy_space.proofs.Shapes.{slot-below}
-use Rattle.scavenge.specs.Clear.{is_cons_page, has_conses, HasNoPage, IsElsewhere, NeedsNoScan}
+use Rattle.scavenge.specs.declared.clear.Reach.{Reach}
+use Rattle.scavenge.specs.Clear.{is_cons_page, has_conses, HasNoPage, IsReach, IsElsewhere, NeedsNoScan}
 use Rattle.scavenge.specs.Fields.{is_weak_kind}
 use Rattle.scavenge.specs.Noting.{IsDone}
 use Rattle.scavenge.specs.Older.{AreObjectsScanned, CanScanPage}
@@ -37,24 +38,32 @@ use Rattle.scavenge.proofs.OneField.{field-word}
 scratch-other : (g : ℕ) → g ≤ 5 → (scratch == g) ≡ false
 scratch-other g most = ne_eqb scratch g (λ same. omega (arith, same))
 
-none-before : (a : NamedHeap) (s : CopyState) → Midway a s → HasNoPage s.pages s.pass.generation → HasNoPage a.pages s.pass.generation
-none-before a s h none page = elim ((its a s h.places).placing.fresh page) [
-  | inl same ↦ ap (λ (e : Entry). is_page_of e s.pass.generation) (sym same) ∙ none page
+other-before : (a : NamedHeap) (s : CopyState) → Midway a s → (page : ℕ) → is_page_of (entry_at s.pages page) s.pass.generation ≡ false →
+    is_page_of (entry_at a.pages page) s.pass.generation ≡ false
+other-before a s h page other = elim ((its a s h.places).placing.fresh page) [
+  | inl same ↦ ap (λ (e : Entry). is_page_of e s.pass.generation) (sym same) ∙ other
   | inr taken ↦ ap (λ (e : Entry). is_page_of e s.pass.generation) taken.0
 ]
 
-none-now : (a : NamedHeap) (s : CopyState) → Midway a s → HasNoPage a.pages s.pass.generation → HasNoPage s.pages s.pass.generation
-none-now a s h none page = elim ((its a s h.places).placing.fresh page) [
-  | inl same ↦ ap (λ (e : Entry). is_page_of e s.pass.generation) same ∙ none page
+other-now : (a : NamedHeap) (s : CopyState) → Midway a s → (page : ℕ) → is_page_of (entry_at a.pages page) s.pass.generation ≡ false →
+    is_page_of (entry_at s.pages page) s.pass.generation ≡ false
+other-now a s h page other = elim ((its a s h.places).placing.fresh page) [
+  | inl same ↦ ap (λ (e : Entry). is_page_of e s.pass.generation) same ∙ other
   | inr taken ↦ ap (λ (e : Entry). is_page_of e s.pass.generation) taken.1.entry ∙ scratch-other s.pass.generation h.places.generation
 ]
 
--- where no page is of the generation, none becomes one
-pub none-stays : (a : NamedHeap) (s t : CopyState) → Midway a s → Scans a s t → HasNoPage s.pages s.pass.generation → HasNoPage t.pages t.pass.generation
-none-stays a s t h k none =
+-- a page that is not of the generation does not become one
+other-stays : (a : NamedHeap) (s t : CopyState) → Midway a s → Scans a s t → (page : ℕ) → is_page_of (entry_at s.pages page) s.pass.generation ≡ false →
+    is_page_of (entry_at t.pages page) t.pass.generation ≡ false
+other-stays a s t h k page other =
     let same : t.pass.generation ≡ s.pass.generation = ap (λ p. p.generation) k.follows.grows.pass in
-    let before : HasNoPage a.pages t.pass.generation = subst (λ (g : ℕ). HasNoPage a.pages g) (sym same) (none-before a s h none) in
-    none-now a t k.midway before
+    other-now a t k.midway page (subst (λ (g : ℕ). is_page_of (entry_at a.pages page) g ≡ false) (sym same) (other-before a s h page other))
+
+pub none-stays : (a : NamedHeap) (s t : CopyState) → Midway a s → Scans a s t → HasNoPage s.pages s.pass.generation → HasNoPage t.pages t.pass.generation
+none-stays a s t h k none page = other-stays a s t h k page (none page)
+
+pub reach-stays : (a : NamedHeap) (s t : CopyState) (reach : Reach) → Midway a s → Scans a s t → IsReach s.pages s.pass.generation reach → IsReach t.pages t.pass.generation reach
+reach-stays a s t reach h k all = λ word index tag tagged out. other-stays a s t h k (index / 512) (all word index tag tagged out)
 
 -- then each value is settled, and its word is what it was
 idle-word : (a : NamedHeap) (s : CopyState) → Midway a s → HasNoPage a.pages s.pass.generation → (v : Value) (word : ℕ) → IsWordOf a s v word → IsNewWord a s v word
@@ -129,7 +138,7 @@ module _ (a : NamedHeap) (s : CopyState) (page words : ℕ) (can : CanScanPage a
       let here = it.here in
       let at : 512 * page + k ≡ new_of s.moves o.place + i = omega (arith, here, from) in
       elim needs.elsewhere [
-        | inl idle ↦ idle-word a s can.midway (none-before a s can.midway idle) v (slice_index s.words (new_of s.moves o.place + i)) w
+        | inl idle ↦ idle-word a s can.midway (λ page. other-before a s can.midway page (idle page)) v (slice_index s.words (new_of s.moves o.place + i)) w
         | inr apart ↦ go i v w (subst (λ (index : ℕ). IsElsewhere s.pages s.pass.generation (slice_index s.words index)) at (apart k inside))
       ]
     where

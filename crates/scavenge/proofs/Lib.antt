@@ -11,3 +11,5 @@ pub mod OlderPages
 pub mod EmptyHeap
 pub mod Carried
 pub mod ClearPages
+pub mod UsedPages
+pub mod Reaching

@@ -225,11 +225,3 @@ module _ (a : NamedHeap) (s t : CopyState) (page words : ℕ) (h : Scans a s t) 
               below-roots a t u new h.midway name o there apart_t (omega (arith, words_is, on, past)))
         ]
       ]
-
--- all pages
-pub all-others : (a : NamedHeap) (s t : CopyState) (listed : List ℕ) (page : ℕ) → Scans a s t → length a.pages ≤ page →
-    ((name : ℕ) (o : Object) → object_at a.objects name ≡ Some o → o.generation ≢ s.pass.generation → o.place < 512 * page → IsDone a t listed o) → OthersScanned a t listed
-all-others a s t listed page h all scanned = λ name o there apart.
-    (let inside = (h.midway.places.sound.objects name o there).placed.inside in
-    let least = words_least o in
-    scanned name o there (λ same. apart (same ∙ sym (ap (λ p. p.generation) h.follows.grows.pass))) (omega arith))

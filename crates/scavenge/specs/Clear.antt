@@ -1,5 +1,5 @@
 -- Pages of conses that need no scan: no word on them refers to a place on a page of the generation that is collected.
-use Rattle.std.specs.Prelude.{◌≡◌, ℕ, ◌+◌, ◌*◌, ◌/◌, ◌<◌, ◌⊎◌, List, Bool, true, false, slice_index}
+use Rattle.std.specs.Prelude.{◌≡◌, ℕ, ◌+◌, ◌*◌, ◌/◌, ◌<◌, ◌≤◌, ◌⊎◌, List, Bool, true, false, slice_index}
 use Rattle.heap_terms.specs.declared.kinds.PageType.{PageType}
 use Rattle.heap_terms.specs.declared.kinds.PageType.TheVariants as types
 use Rattle.heap_terms.specs.declared.pages.Entry.{Entry}
@@ -10,6 +10,7 @@ use Rattle.lisp_words.specs.declared.pointers.Lowtag.{Lowtag}
 use Rattle.lisp_words.specs.Tagged.{IsTagged}
 use Rattle.copy_space.specs.Pages.{is_page_of}
 use Rattle.copy_space.specs.State.{CopyState}
+use Rattle.scavenge.specs.declared.clear.Reach.{Reach}
 
 abbrev pub is_cons_page : PageType → Bool
 is_cons_page types.Cons = true
@@ -24,6 +25,15 @@ has_conses (Used ty g fill first n) = is_cons_page ty
 -- no page is of generation g
 abbrev pub HasNoPage : List Entry → ℕ → Type 0
 HasNoPage pages g = (page : ℕ) → is_page_of (entry_at pages page) g ≡ false
+
+-- the pages of generation g lie from one page on and below another
+abbrev pub LieWithin : List Entry → ℕ → ℕ → ℕ → Type 0
+LieWithin pages g first end = (page : ℕ) → (page < first) ⊎ (end ≤ page) → is_page_of (entry_at pages page) g ≡ false
+
+-- the addresses of places on them lie from one word on and below another
+abbrev pub IsReach : List Entry → ℕ → Reach → Type 0
+IsReach pages g reach = (word index : ℕ) (tag : Lowtag) → IsTagged word index tag → (word < reach.from) ⊎ (reach.end ≤ word) →
+    is_page_of (entry_at pages (index / page_words)) g ≡ false
 
 -- a word is the address of a place on a page that is not of generation g
 pub record RefersElsewhere (pages : List Entry) (g word : ℕ) : Type 0 where

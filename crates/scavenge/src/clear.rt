@@ -6,11 +6,11 @@ ghost use Rattle.heap_terms.specs.Heap.{entry_at};
 ghost use Rattle.heap_terms.specs.Layout.{page_words};
 ghost use Rattle.copy_space.specs.Pages.{is_page_of};
 ghost use Rattle.copy_space.specs.State.{state};
-ghost use Rattle.scavenge.specs.Clear.{has_conses, HasNoPage, IsElsewhere, AreElsewhere, NeedsNoScan};
+ghost use Rattle.scavenge.specs.Clear.{has_conses, HasNoPage, LieWithin, IsReach, IsElsewhere, AreElsewhere, NeedsNoScan};
 
 use copy_space::Copier;
-use heap_terms::{Entry, PAGE_WORDS, PageType};
-use lisp_words::untag;
+use heap_terms::{Entry, Kind, MOST_PAGES, PAGE_WORDS, PageType};
+use lisp_words::{tag, untag};
 use page_table::PageTable;
 use word_space::Space;
 
@@ -32,12 +32,59 @@ fn is_of(pages: &PageTable, page: u32, generation: u8) -> bool
 pub(crate) fn has_no_page(pages: &PageTable, generation: u8) -> bool
     ensures { result ≡ true → HasNoPage pages.now generation }
 {
-    for page in 0..pages.len() {
+    for page in 0..pages.used_end() {
         if is_of(pages, page, generation) {
             return false;
         }
     }
     true
+}
+
+/// Between which pages those of a generation lie.
+#[derive(Clone, Copy)]
+pub struct Span {
+    /// None lies below it.
+    pub first: u32,
+    /// None lies here or above.
+    pub end: u32,
+}
+
+/// Between which words those lie that refer to a page of a generation.
+#[derive(Clone, Copy)]
+pub struct Reach {
+    /// None is lower.
+    pub from: u64,
+    /// None is this one or higher.
+    pub end: u64,
+}
+
+/// Between which pages those of a generation lie.
+fn span_of(pages: &PageTable, generation: u8) -> Span
+    ensures within { LieWithin pages.now generation result.first result.end }
+    ensures least { result.first ≤ length pages.now }
+    ensures most { result.end ≤ length pages.now }
+{
+    let mut first = pages.used_end();
+    let mut end = 0;
+    for page in 0..pages.used_end() {
+        if is_of(pages, page, generation) {
+            first = first.min(page);
+            end = page + 1;
+        }
+    }
+    Span { first, end }
+}
+
+/// Between which words those lie that refer to a page of a generation.
+pub(crate) fn reach_of(pages: &PageTable, generation: u8) -> Reach
+    ensures { IsReach pages.now generation result }
+{
+    prove!(pages.len() <= MOST_PAGES);
+    let span = span_of(pages, generation);
+    Reach {
+        from: tag(PAGE_WORDS * span.first, Kind::Instance),
+        end: tag(PAGE_WORDS * span.end, Kind::Instance),
+    }
 }
 
 /// Whether a word refers to a place on a page of a generation.
@@ -51,12 +98,28 @@ fn refers_to(pages: &PageTable, word: u64, generation: u8) -> bool
     }
 }
 
+/// The same, where most words are told by comparing alone.
+#[inline(always)]
+fn is_reached(pages: &PageTable, word: u64, generation: u8, reach: Reach) -> bool
+    requires { IsReach pages.now generation reach }
+    ensures { result ≡ false → IsElsewhere pages.now generation word }
+{
+    if word < reach.from {
+        return false;
+    }
+    if word >= reach.end {
+        return false;
+    }
+    refers_to(pages, word, generation)
+}
+
 /// Whether none of these words does.
-fn are_clear(words: &[u64], pages: &PageTable, generation: u8) -> bool
+fn are_clear(words: &[u64], pages: &PageTable, generation: u8, reach: Reach) -> bool
+    requires { IsReach pages.now generation reach }
     ensures { result ≡ true → AreElsewhere words.now pages.now generation 0 (length words.now) }
 {
     for word in words {
-        if refers_to(pages, *word, generation) {
+        if is_reached(pages, *word, generation, reach) {
             return false;
         }
     }
@@ -66,12 +129,20 @@ fn are_clear(words: &[u64], pages: &PageTable, generation: u8) -> bool
 /// Whether none of so many words from an index on does. Where not all of them have been
 /// written to, that is not said.
 #[inline(never)]
-fn is_clear(space: &Space, pages: &PageTable, from: u32, count: u32, generation: u8) -> bool
-    requires { from + count ≤ length space.now }
+fn is_clear(
+    space: &Space,
+    pages: &PageTable,
+    from: u32,
+    count: u32,
+    generation: u8,
+    reach: Reach,
+) -> bool
+    requires inside { from + count ≤ length space.now }
+    requires reach { IsReach pages.now generation reach }
     ensures { result ≡ true → AreElsewhere space.now pages.now generation from count }
 {
     match space.window(from, count) {
-        Some(words) => are_clear(words, pages, generation),
+        Some(words) => are_clear(words, pages, generation, reach),
         None => false,
     }
 }
@@ -90,12 +161,19 @@ fn holds_conses(entry: Entry) -> bool
 }
 
 /// Whether nothing that begins below so many words of a page needs a scan. `idle` says that no page is
-/// of the generation that is collected.
+/// of the generation that is collected, and `reach` which words refer to one.
 #[inline(always)]
-pub(crate) fn needs_no_scan(copier: &Copier, page: u32, words: u32, idle: bool) -> bool
+pub(crate) fn needs_no_scan(
+    copier: &Copier,
+    page: u32,
+    words: u32,
+    idle: bool,
+    reach: Reach,
+) -> bool
     requires page { page < length copier.now.pages.now }
     requires words { page_words * page + words ≤ length copier.now.space.now }
     requires idle { idle ≡ true → HasNoPage copier.now.pages.now copier.now.pass.generation }
+    requires reach { IsReach copier.now.pages.now copier.now.pass.generation reach }
     ensures { result ≡ true → NeedsNoScan (state copier.now) page words }
 {
     if words == 0 {
@@ -115,5 +193,6 @@ pub(crate) fn needs_no_scan(copier: &Copier, page: u32, words: u32, idle: bool) 
         PAGE_WORDS * page,
         words,
         generation,
+        reach,
     )
 }

@@ -7,14 +7,14 @@ ghost use Rattle.heap_terms.specs.declared.kinds.Kind.{Kind};
 ghost use Rattle.lisp_words.specs.Tagged.{IsHeader};
 ghost use Rattle.copy_space.specs.Notes.{SameButMoves};
 ghost use Rattle.copy_space.specs.State.{state};
-ghost use Rattle.scavenge.specs.Clear.{HasNoPage};
+ghost use Rattle.scavenge.specs.Clear.{HasNoPage, IsReach};
 ghost use Rattle.scavenge.specs.Fields.{IsSameCopier};
 ghost use Rattle.scavenge.specs.Older.{root_words as words_with_roots, IsSized, CanScanPiece, IsPieceScanned, CanScanPage, AreObjectsScanned};
 ghost use Rattle.copy_space.specs.Midway.{Midway};
 ghost use Rattle.scavenge.specs.Noting.{CanNote, Notes};
 ghost use Rattle.scavenge.specs.Scanning.{Scans, OthersScanned};
 
-use crate::clear::{has_no_page, needs_no_scan};
+use crate::clear::{Reach, has_no_page, needs_no_scan, reach_of};
 use crate::objects::scan_object;
 use copy_space::{Copier, SCRATCH_GENERATION};
 use heap_terms::{Entry, PAGE_WORDS, PageType};
@@ -72,19 +72,27 @@ fn scan_pieces(copier: &mut Copier, weak: &mut PinSet, page: u32, words: u32)
 }
 
 /// Scans the objects that begin below so many words of a page, if they need it. `idle` says that no
-/// page is of the generation that is collected.
+/// page is of the generation that is collected, and `reach` which words refer to one.
 #[inline(always)]
-fn scan_page(copier: &mut Copier, weak: &mut PinSet, page: u32, words: u32, idle: bool)
+fn scan_page(
+    copier: &mut Copier,
+    weak: &mut PinSet,
+    page: u32,
+    words: u32,
+    idle: bool,
+    reach: Reach,
+)
     ghost a: { NamedHeap }
     requires can { CanScanPage a (state copier.old) page words }
     requires note { CanNote a (state copier.old) weak.old }
     requires idle { idle ≡ true → HasNoPage copier.old.pages.now copier.old.pass.generation }
+    requires reach { IsReach copier.old.pages.now copier.old.pass.generation reach }
     ensures scans { Scans a (state copier.old) (state copier.new) }
     ensures scanned { AreObjectsScanned a (state copier.new) weak.new.listed (page_words * page) (page_words * page + words) }
     ensures noting { Notes a (state copier.new) weak.old weak.new }
     ensures same { IsSameCopier copier.old copier.new }
 {
-    if needs_no_scan(copier, page, words, idle) {
+    if needs_no_scan(copier, page, words, idle, reach) {
         return;
     }
     scan_pieces(copier, weak, page, words);
@@ -127,8 +135,9 @@ pub fn scavenge_older(copier: &mut Copier, weak: &mut PinSet)
 {
     let collected = copier.pass().generation;
     let idle = has_no_page(copier.pages(), collected);
-    for page in 0..copier.pages().len() {
+    let reach = reach_of(copier.pages(), collected);
+    for page in 0..copier.pages().used_end() {
         let words = root_words(copier.pages().entry(page), page, collected);
-        scan_page(copier, weak, page, words, idle);
+        scan_page(copier, weak, page, words, idle, reach);
     }
 }

@@ -1,9 +1,12 @@
 -- Page by page of the generation.
-use Rattle.std.proofs.Common.{◌≡◌, ℕ, ◌+◌, ◌*◌, ◌<◌, ◌≤◌, ◌++◌, List, length, map, true, false, refl, sym, ◌∙◌, ap, subst, arith}
+use Rattle.std.proofs.Common.{◌≡◌, ℕ, ◌+◌, ◌-◌, ◌*◌, ◌<◌, ◌≤◌, ◌++◌, List, length, map, true, false, refl, sym, ◌∙◌, ap, subst, arith}
 use Rattle.heap_terms.specs.declared.limits.TheConstants.{MOST_PAGES}
 use Rattle.pin_set.specs.Starts.{Starts}
 use Rattle.object_walk.specs.Walks.{found_at}
 use Rattle.ambiguous_roots.specs.Pinning.{referred, AreHitBefore, how_many_before}
+use Rattle.heap_terms.specs.Heap.{entry_at}
+use Rattle.heap_terms.specs.Regions.{is_free}
+use Rattle.ambiguous_roots.proofs.Beyond.{hit-beyond, count-beyond}
 use Rattle.ambiguous_roots.proofs.HowMany.{how_many-walked, how_many-passed}
 use Rattle.ambiguous_roots.proofs.PageStep.{hit-none, hit-passed, hit-walked, few-starts, can-pin, laid-of, on-page, met-of, walked-is, none-before}
 use Rattle.ambiguous_roots.proofs.pins.pin_pages.Goals as goal
@@ -25,8 +28,8 @@ pin_page-count-requires-clause-can g c starts on =
     let met = met-of g.a c.args.space.now c.args.pages.now c.loop-page.page starts c.requires.sound c.requires.stand c.requires.pages_are on in
     let walked = walked-is g.a c.args.pages.now c.loop-page.page c.args.generation c.entry.result c.is_walked.result true c.requires.pages_are c.entry.ensures c.is_walked.ensures c.if-is_walked.true in
     let same : length c.args.pages.now ≡ length g.a.pages = ap length c.requires.pages_are in
-    let most : length g.a.pages ≤ MOST_PAGES = omega (arith, c.len-page-end.ensures.value, c.len-page-end.ensures.most) in
-    let inside : c.loop-page.page < length g.a.pages = omega (arith, c.loop-page-test.true, c.len-page-end.ensures.value) in
+    let most : length g.a.pages ≤ MOST_PAGES = omega (arith, c.len.ensures.value, c.len.ensures.most) in
+    let inside : c.loop-page.page < length g.a.pages = omega (arith, c.loop-page-test.true, c.used_end-page-end.ensures.inside) in
     let room : length c.args.ambiguous.now ≤ c.loop-page.pins.most = omega (arith, c.requires.room, c.loop-page.invariant.most) in
     can-pin g.a c.requires.sound c.args.generation c.loop-page.page c.args.ambiguous.now c.loop-page.pins.listed c.loop-page.invariant.pins starts met walked
     c.args.hints.now c.loop-page.pins refl room (c.requires.hints_long ∙ c.requires.stand.long) most inside c.requires.hinted
@@ -39,7 +42,7 @@ overflow_add-count g c =
     let few : length on.starts ≤ 512 = few-starts g.a c.requires.sound c.args.generation c.loop-page.page c.args.ambiguous.now c.loop-page.pins.listed c.loop-page.invariant.pins on.starts met walked in
     let count : c.pin_page-count.result ≡ length on.starts = c.pin_page-count.ensures.count on.starts on.on in
     let bound : c.loop-page.count ≤ 512 * c.loop-page.page = c.loop-page.invariant.bound in
-    omega (arith, few, count, bound, c.loop-page-test.true, c.len-page-end.ensures.most)
+    omega (arith, few, count, bound, c.loop-page-test.true, c.used_end-page-end.ensures.inside, c.len.ensures.value, c.len.ensures.most)
 
 pub loop-page-preserved : goal.loop-page-preserved
 loop-page-preserved g c = elim c.if-is_walked.branch [
@@ -74,3 +77,25 @@ loop-page-preserved g c = elim c.if-is_walked.branch [
         bound = omega (arith, count, bound);
       })
 ]
+
+pub returns-clause-pins : goal.returns-clause-pins
+returns-clause-pins g c =
+    let free : (p : ℕ) → c.used_end-page-end.result ≤ p → is_free (entry_at g.a.pages p) ≡ true = rw c.requires.pages_are at c.used_end-page-end.ensures.free in
+    let inside : c.used_end-page-end.result ≤ length c.args.pages.now = c.used_end-page-end.ensures.inside in
+    let at : c.loop-page.page ≡ c.used_end-page-end.result = omega arith in
+    let k = length c.args.pages.now - c.used_end-page-end.result in
+    let whole : c.used_end-page-end.result + k ≡ length c.args.pages.now = omega arith in
+    subst (λ (n : ℕ). AreHitBefore g.a c.args.generation c.args.ambiguous.now (512 * n) c.loop-page.pins.listed) whole
+    (hit-beyond g.a c.requires.sound c.args.generation c.used_end-page-end.result free c.args.ambiguous.now c.loop-page.pins.listed
+    (subst (λ (n : ℕ). AreHitBefore g.a c.args.generation c.args.ambiguous.now (512 * n) c.loop-page.pins.listed) at c.loop-page.invariant.pins) k)
+
+pub returns-clause-count : goal.returns-clause-count
+returns-clause-count g c =
+    let free : (p : ℕ) → c.used_end-page-end.result ≤ p → is_free (entry_at g.a.pages p) ≡ true = rw c.requires.pages_are at c.used_end-page-end.ensures.free in
+    let inside : c.used_end-page-end.result ≤ length c.args.pages.now = c.used_end-page-end.ensures.inside in
+    let at : c.loop-page.page ≡ c.used_end-page-end.result = omega arith in
+    let k = length c.args.pages.now - c.used_end-page-end.result in
+    let whole : c.used_end-page-end.result + k ≡ length c.args.pages.now = omega arith in
+    c.loop-page.invariant.count ∙ ap (λ (n : ℕ). how_many_before g.a c.args.generation (512 * n)) at
+    ∙ sym (count-beyond g.a c.requires.sound c.args.generation c.used_end-page-end.result free k)
+    ∙ ap (λ (n : ℕ). how_many_before g.a c.args.generation (512 * n)) whole

@@ -1,7 +1,9 @@
 -- One page after another is swept.
-use Rattle.std.proofs.Common.{◌≡◌, ℕ, ◌<◌, List, [], ◌∷◌, ◌++◌, length, Bool, true, false, cond, Vec, Global, vec_capacity, sym, ◌∙◌, ap, arith}
+use Rattle.std.proofs.Common.{◌≡◌, ℕ, ◌+◌, ◌-◌, ◌<◌, ◌≤◌, List, [], ◌∷◌, ◌++◌, length, Bool, true, false, cond, Vec, Global, vec_capacity, sym, ◌∙◌, ap, subst, arith}
 use Rattle.std.proofs.lemmas.List.{append-nil}
-use Rattle.page_sweep.proofs.Progress.{one-more, listed-most, all-swept}
+use Rattle.heap_terms.specs.Heap.{entry_at}
+use Rattle.heap_terms.specs.Regions.{is_free}
+use Rattle.page_sweep.proofs.Progress.{IsSweptUpTo, one-more, listed-most, swept-beyond, all-swept}
 use Rattle.page_sweep.proofs.sweeping.sweep_pages.Goals as goal
 use Rattle.page_sweep.proofs.sweeping.sweep_pages.Goals.{then-sweep_page, else-sweep_page}
 
@@ -38,5 +40,11 @@ loop-page-preserved g c =
 
 pub returns-clause-swept : goal.returns-clause-swept
 returns-clause-swept g c =
-    all-swept g.at c.args.traced.now c.args.space.now c.args.pages.now c.requires.0 c.loop-page.space c.loop-page.pages c.loop-page.freed.items c.loop-page.page c.loop-page.invariant.swept
+    let free : (p : ℕ) → c.used_end-page-end.result ≤ p → is_free (entry_at g.at.state.pages p) ≡ true = rw c.requires.0.pages_are at c.used_end-page-end.ensures.free in
+    let inside : c.used_end-page-end.result ≤ length c.args.pages.now = c.used_end-page-end.ensures.inside in
+    let at : c.loop-page.page ≡ c.used_end-page-end.result = omega arith in
+    let k = length c.args.pages.now - c.used_end-page-end.result in
+    let upto = swept-beyond g.at c.args.traced.now c.args.space.now c.args.pages.now c.requires.0 c.loop-page.space c.loop-page.pages c.loop-page.freed.items c.used_end-page-end.result free
+    (subst (IsSweptUpTo g.at c.args.traced.now.target c.loop-page.space c.loop-page.pages c.loop-page.freed.items) at c.loop-page.invariant.swept) k in
+    all-swept g.at c.args.traced.now c.args.space.now c.args.pages.now c.requires.0 c.loop-page.space c.loop-page.pages c.loop-page.freed.items (c.used_end-page-end.result + k) upto
     (omega arith)

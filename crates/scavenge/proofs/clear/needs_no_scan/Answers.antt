@@ -2,7 +2,7 @@
 use Rattle.std.proofs.Common.{ℕ, ◌*◌, List, inr, sym, ◌∙◌, ap, subst}
 use Rattle.heap_terms.specs.declared.pages.Entry.{Entry}
 use Rattle.heap_terms.specs.Heap.{entry_at}
-use Rattle.scavenge.specs.Clear.{has_conses, AreElsewhere}
+use Rattle.scavenge.specs.Clear.{has_conses, IsReach, AreElsewhere}
 use Rattle.scavenge.proofs.clear.needs_no_scan.Goals as goal
 
 pub returns : goal.returns
@@ -18,3 +18,10 @@ returns c = λ clear.
       conses = λ some. ap has_conses (sym (c.entry.ensures ∙ ap (λ (es : List Entry). entry_at es c.args.page) c.pages.ensures)) ∙ sym c.holds_conses.ensures ∙ c.if-not-holds_conses.false;
       elsewhere = inr (subst (λ (k : ℕ). AreElsewhere copier.space.now copier.pages.now k from words) g on_pages);
     })
+
+pub is_clear-requires-clause-reach : goal.is_clear-requires-clause-reach
+is_clear-requires-clause-reach c =
+    let copier = c.args.copier.now in
+    let g = ap (λ p. p.generation) c.pass-generation.ensures in
+    subst (λ (es : List Entry). IsReach es c.pass-generation.result.generation c.args.reach) (sym c.pages-3.ensures)
+    (subst (λ (k : ℕ). IsReach copier.pages.now k c.args.reach) (sym g) c.requires.reach)
