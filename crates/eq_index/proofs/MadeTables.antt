@@ -1,5 +1,5 @@
 -- The words of an empty table for three pairs, at the start of a page.
-use Rattle.std.proofs.Common.{◌≡◌, ℕ, zero, suc, ◌+◌, ◌<◌, List, [], ◌∷◌, ◌++◌, length, refl, arith, slice_index}
+use Rattle.std.proofs.Common.{◌≡◌, ℕ, zero, suc, ◌+◌, ◌<◌, List, [], ◌∷◌, ◌++◌, refl, arith, slice_index}
 use Rattle.eq_index.specs.Tables.{HasTable}
 
 abbrev pub three_pairs : List ℕ

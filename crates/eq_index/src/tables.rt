@@ -1,6 +1,6 @@
 //! Where a table keeps what, and how a pair is found.
 
-ghost use Rattle.std.specs.Prelude.{◌≡◌, ◌+◌, ◌*◌, ◌<◌, ◌≤◌, ◌==◌, ℕ, List, length, slice_index};
+ghost use Rattle.std.specs.Prelude.{◌≡◌, ◌≢◌, ◌+◌, ◌*◌, ◌<◌, ◌≤◌, ◌==◌, ℕ, List, length, slice_index, IfSome, IsNone};
 ghost use Rattle.eq_index.specs.Answers.{Finds, LooksUp};
 ghost use Rattle.eq_index.specs.Tables.{Becomes, HasTable, IsTable, PairWords};
 
@@ -42,7 +42,36 @@ pub(crate) fn capacity(space: &Space, table: u32) -> u32
 }
 
 /// The number of the pair with a key, looked for from the first pair on.
+#[inline(always)]
 pub(crate) fn slot_of(space: &Space, table: u32, key: u64) -> Option<u32>
+    requires { HasTable space.now table }
+    ensures { (b : ℕ) (pairs : List PairWords) → IsTable space.now table b pairs → Finds pairs key result }
+{
+    let count = count(space, table);
+    match space.window(table + PAIRS, 2 * count) {
+        Some(words) => slot_in(words, count, key),
+        None => slot_read(space, table, key),
+    }
+}
+
+/// The number of the first of so many pairs with a key, of which the words stand one after the other.
+fn slot_in(words: &[u64], count: u32, key: u64) -> Option<u32>
+    requires { 2 * count ≤ length words.now }
+    ensures found { IfSome result (λ k. (k < count) × (slice_index words.now (2 * k) ≡ key)) }
+    ensures none { IsNone result → (k : ℕ) → k < count → slice_index words.now (2 * k) ≢ key }
+{
+    for slot in 0..count {
+        if words[2 * slot as usize] == key {
+            return Some(slot);
+        }
+    }
+    None
+}
+
+/// The same as `slot_of`, word by word, where the words do not stand in one piece.
+#[cold]
+#[inline(never)]
+fn slot_read(space: &Space, table: u32, key: u64) -> Option<u32>
     requires { HasTable space.now table }
     ensures { (b : ℕ) (pairs : List PairWords) → IsTable space.now table b pairs → Finds pairs key result }
 {

@@ -2,7 +2,8 @@
 //! order would take a look at all pairs for each link of the chain.
 //!
 //! What stands here are hints, and nothing but time hangs on them: a pair that a hint leads to is
-//! looked at as it stands in its table, and before a pass ends all pairs are looked at once more.
+//! looked at as it stands in its table, and a pass ends only after a look at all pairs that settled
+//! nothing.
 
 ghost use Rattle.std.specs.Prelude.{◌≤◌};
 ghost use Rattle.heap_terms.specs.declared.limits.TheConstants.{MOST_PAGES};

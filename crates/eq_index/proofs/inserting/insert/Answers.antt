@@ -1,7 +1,6 @@
-use Rattle.std.proofs.Common.{◌≡◌, ℕ, ◌+◌, ◌*◌, ◌<◌, List, [], ◌∷◌, ◌++◌, ◌∙◌, length, set, sym, ap, subst, refl, arith}
-use Rattle.eq_index.specs.Answers.{Inserts}
-use Rattle.eq_index.specs.Tables.{PairWords, Becomes, pair_at}
-use Rattle.eq_index.proofs.Changes.{replaced, unchanged}
+use Rattle.std.proofs.Common.{ℕ, List, set, sym, subst, refl, arith}
+use Rattle.eq_index.specs.Tables.{PairWords, Becomes}
+use Rattle.eq_index.proofs.Changes.{replaced}
 use Rattle.eq_index.proofs.inserting.insert.Goals as goal
 
 pub overflow_mul-slot : goal.overflow_mul-slot

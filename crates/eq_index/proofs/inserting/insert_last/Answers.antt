@@ -1,4 +1,4 @@
-use Rattle.std.proofs.Common.{◌≡◌, ◌<◌, [], ◌∷◌, ◌++◌, refl, arith}
+use Rattle.std.proofs.Common.{[], ◌∷◌, ◌++◌, refl, arith}
 use Rattle.eq_index.specs.Tables.{PairWords}
 use Rattle.eq_index.proofs.Changes.{unchanged}
 use Rattle.eq_index.proofs.inserting.insert_last.Goals as goal

@@ -1,8 +1,7 @@
-use Rattle.std.proofs.Common.{◌≡◌, ℕ, ◌+◌, ◌-◌, ◌*◌, ◌<◌, List, ◌∙◌, length, sym, ap, subst, refl, arith}
+use Rattle.std.proofs.Common.{◌≡◌, ℕ, ◌+◌, ◌-◌, ◌*◌, List, ◌∙◌, length, sym, ap, subst, refl, arith}
 use Rattle.std.proofs.lemmas.List.{length-set}
 use Rattle.eq_index.specs.Answers.{without}
-use Rattle.eq_index.specs.Closing.{ClosesUp}
-use Rattle.eq_index.specs.Tables.{PairWords, Becomes}
+use Rattle.eq_index.specs.Tables.{Becomes}
 use Rattle.eq_index.proofs.Changes.{removed, removed_words}
 use Rattle.eq_index.proofs.removing.remove_at.Goals as goal
 
