@@ -1,6 +1,8 @@
 -- Between which words those lie that refer to a generation.
-use Rattle.std.proofs.Common.{◌≡◌, ◌≢◌, ℕ, ◌+◌, ◌-◌, ◌*◌, ◌/◌, ◌%◌, ◌<◌, ◌≤◌, ◌⊎◌, inl, inr, List, arith}
-use Rattle.std.proofs.lemmas.Bool.{cases_lt, cases_eq}
+use Rattle.std.proofs.Common.{◌≡◌, ◌≢◌, ℕ, ◌+◌, ◌-◌, ◌*◌, ◌/◌, ◌%◌, ◌<◌, ◌≤◌, ◌⊎◌, inl, inr, List, Bool, true, false, length, take, drop, refl, sym, ◌∙◌, ap, subst, arith}
+use Rattle.std.specs.Prelude.{◌&&◌, ◌||◌, nat_le, nat_lt, slice_index}
+use Rattle.std.proofs.lemmas.Bool.{cases_lt, cases_eq, and_from, le-leb, lt-ltb, false≢true}
+use Rattle.std.proofs.lemmas.List.{get_or-take, get_or-drop, length-take-le, length-drop}
 use Rattle.heap_terms.specs.declared.limits.TheConstants.{MOST_WORDS}
 use Rattle.heap_terms.specs.declared.pages.Entry.{Entry}
 use Rattle.heap_terms.specs.Layout.{base_address}
@@ -8,7 +10,7 @@ use Rattle.lisp_words.specs.declared.pointers.Lowtag.{Lowtag}
 use Rattle.lisp_words.specs.declared.pointers.Lowtag.TheVariants as lowtags
 use Rattle.lisp_words.specs.Tagged.{IsTagged, tag_bits}
 use Rattle.scavenge.specs.declared.clear.Reach.{Reach}
-use Rattle.scavenge.specs.Clear.{LieWithin, IsReach, IsElsewhere}
+use Rattle.scavenge.specs.Clear.{LieWithin, IsReach, AreBeyond, IsElsewhere, AreElsewhere}
 
 -- the lowtags
 least_bits : (tag : Lowtag) → 3 ≤ tag_bits tag
@@ -96,3 +98,40 @@ reach-of pages g first end from past within from_is past_is = λ word index tag 
       | inl low ↦ inl (omega (arith, least, is, low, from_is))
       | inr high ↦ inr (omega (arith, most, even, is, high, past_is))
     ]))
+
+-- one word more is compared
+outside : (w from end : ℕ) → (nat_le from w && nat_lt w end) ≡ false → (w < from) ⊎ (end ≤ w)
+outside w from end e = elim (cases_lt w from) [
+  | inl low ↦ inl low
+  | inr above ↦ elim (cases_lt w end) [
+    | inr high ↦ inr high
+    | inl below ↦ absurd (false≢true (sym e ∙ and_from (nat_le from w) (nat_lt w end) (le-leb from w above) (lt-ltb w end below)))
+  ]
+]
+
+pub beyond-more : (words : List ℕ) (reach : Reach) (found : Bool) (n : ℕ)
+    → (found ≡ false → (k : ℕ) → k < n → (slice_index words k < reach.from) ⊎ (reach.end ≤ slice_index words k))
+    → (found || (nat_le reach.from (slice_index words n) && nat_lt (slice_index words n) reach.end)) ≡ false
+    → (k : ℕ) → k < n + 1 → (slice_index words k < reach.from) ⊎ (reach.end ≤ slice_index words k)
+beyond-more words reach true n before none k below = absurd (false≢true (sym none))
+beyond-more words reach false n before none k below = elim (cases_lt k n) [
+  | inl sooner ↦ before refl k sooner
+  | inr here ↦ (let at : n ≡ k = omega arith in
+      subst (λ (i : ℕ). (slice_index words i < reach.from) ⊎ (reach.end ≤ slice_index words i)) at (outside (slice_index words n) reach.from reach.end none))
+]
+
+-- words none of which lies in reach
+pub all-elsewhere : (words : List ℕ) (pages : List Entry) (g : ℕ) (reach : Reach) → IsReach pages g reach → AreBeyond words reach → AreElsewhere words pages g 0 (length words)
+all-elsewhere words pages g reach all beyond k below = elsewhere pages g reach all (slice_index words (0 + k)) (beyond (0 + k) (omega (arith, below)))
+
+-- words that are a part of others
+pub in-part : (space part : List ℕ) (pages : List Entry) (g from count : ℕ) → part ≡ take count (drop from space) → from + count ≤ length space
+    → AreElsewhere part pages g 0 (length part) → AreElsewhere space pages g from count
+in-part space part pages g from count is inside all k below =
+    let rest = length-drop from space in
+    let long : length part ≡ count = ap length is ∙ length-take-le count (drop from space) (omega (arith, rest, inside)) in
+    let plus : 0 + k ≡ k = omega arith in
+    let value : slice_index part (0 + k) ≡ slice_index space (from + k) =
+        ap (λ ws. slice_index ws (0 + k)) is ∙ ap (λ (i : ℕ). slice_index (take count (drop from space)) i) plus ∙ get_or-take count (drop from space) k 0 below
+        ∙ get_or-drop from space k 0 in
+    subst (λ (w : ℕ). IsElsewhere pages g w) value (all k (omega (arith, long, below)))

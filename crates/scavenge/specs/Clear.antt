@@ -1,5 +1,5 @@
 -- Pages of conses that need no scan: no word on them refers to a place on a page of the generation that is collected.
-use Rattle.std.specs.Prelude.{◌≡◌, ℕ, ◌+◌, ◌*◌, ◌/◌, ◌<◌, ◌≤◌, ◌⊎◌, List, Bool, true, false, slice_index}
+use Rattle.std.specs.Prelude.{◌≡◌, ℕ, ◌+◌, ◌*◌, ◌/◌, ◌<◌, ◌≤◌, ◌⊎◌, List, Bool, true, false, length, slice_index}
 use Rattle.heap_terms.specs.declared.kinds.PageType.{PageType}
 use Rattle.heap_terms.specs.declared.kinds.PageType.TheVariants as types
 use Rattle.heap_terms.specs.declared.pages.Entry.{Entry}
@@ -34,6 +34,10 @@ LieWithin pages g first end = (page : ℕ) → (page < first) ⊎ (end ≤ page)
 abbrev pub IsReach : List Entry → ℕ → Reach → Type 0
 IsReach pages g reach = (word index : ℕ) (tag : Lowtag) → IsTagged word index tag → (word < reach.from) ⊎ (reach.end ≤ word) →
     is_page_of (entry_at pages (index / page_words)) g ≡ false
+
+-- no word lies in reach
+abbrev pub AreBeyond : List ℕ → Reach → Type 0
+AreBeyond words reach = (k : ℕ) → k < length words → (slice_index words k < reach.from) ⊎ (reach.end ≤ slice_index words k)
 
 -- a word is the address of a place on a page that is not of generation g
 pub record RefersElsewhere (pages : List Entry) (g word : ℕ) : Type 0 where

@@ -6,7 +6,7 @@ ghost use Rattle.heap_terms.specs.Heap.{entry_at};
 ghost use Rattle.heap_terms.specs.Layout.{page_words};
 ghost use Rattle.copy_space.specs.Pages.{is_page_of};
 ghost use Rattle.copy_space.specs.State.{state};
-ghost use Rattle.scavenge.specs.Clear.{has_conses, HasNoPage, LieWithin, IsReach, IsElsewhere, AreElsewhere, NeedsNoScan};
+ghost use Rattle.scavenge.specs.Clear.{has_conses, HasNoPage, LieWithin, IsReach, AreBeyond, IsElsewhere, AreElsewhere, NeedsNoScan};
 
 use copy_space::Copier;
 use heap_terms::{Entry, Kind, MOST_PAGES, PAGE_WORDS, PageType};
@@ -98,28 +98,23 @@ fn refers_to(pages: &PageTable, word: u64, generation: u8) -> bool
     }
 }
 
-/// The same, where most words are told by comparing alone.
-#[inline(always)]
-fn is_reached(pages: &PageTable, word: u64, generation: u8, reach: Reach) -> bool
-    requires { IsReach pages.now generation reach }
-    ensures { result ≡ false → IsElsewhere pages.now generation word }
+/// Whether some word lies between two. It looks at each word, without a branch.
+fn is_any_within(words: &[u64], reach: Reach) -> bool
+    ensures { result ≡ false → AreBeyond words.now reach }
 {
-    if word < reach.from {
-        return false;
+    let mut found = false;
+    for word in words {
+        found |= (reach.from <= *word) & (*word < reach.end);
     }
-    if word >= reach.end {
-        return false;
-    }
-    refers_to(pages, word, generation)
+    found
 }
 
 /// Whether none of these words does.
-fn are_clear(words: &[u64], pages: &PageTable, generation: u8, reach: Reach) -> bool
-    requires { IsReach pages.now generation reach }
+fn are_clear(words: &[u64], pages: &PageTable, generation: u8) -> bool
     ensures { result ≡ true → AreElsewhere words.now pages.now generation 0 (length words.now) }
 {
     for word in words {
-        if is_reached(pages, *word, generation, reach) {
+        if refers_to(pages, *word, generation) {
             return false;
         }
     }
@@ -142,7 +137,8 @@ fn is_clear(
     ensures { result ≡ true → AreElsewhere space.now pages.now generation from count }
 {
     match space.window(from, count) {
-        Some(words) => are_clear(words, pages, generation, reach),
+        // Comparing alone tells it of most pages.
+        Some(words) => !is_any_within(words, reach) || are_clear(words, pages, generation),
         None => false,
     }
 }

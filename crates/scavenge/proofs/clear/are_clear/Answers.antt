@@ -9,5 +9,5 @@ pub loop-word-preserved : goal.loop-word-preserved
 loop-word-preserved c = λ k below. elim (cases_lt k c.loop-word.word-index) [
   | inl before ↦ c.loop-word.invariant k before
   | inr last ↦ (let at : c.loop-word.word-index ≡ 0 + k = omega arith in
-      subst (λ (i : ℕ). IsElsewhere c.args.pages.now c.args.generation (slice_index c.args.words.now i)) at (c.is_reached.ensures c.if-is_reached.false))
+      subst (λ (i : ℕ). IsElsewhere c.args.pages.now c.args.generation (slice_index c.args.words.now i)) at (c.refers_to.ensures c.if-refers_to.false))
 ]
