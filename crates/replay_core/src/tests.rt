@@ -4,6 +4,9 @@ ghost use Rattle.std.specs.Prelude.{◌≡◌, ◌<◌, length, IfOk};
 ghost use Rattle.heap_terms.specs.Valid.{IsValid};
 ghost use Rattle.replay_core.specs.MachineView.{program_of};
 
+mod passes;
+mod places;
+
 use crate::machine::{Machine, Stepped};
 use crate::runs::run_schedule;
 use heap_terms::{
