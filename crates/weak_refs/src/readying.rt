@@ -125,8 +125,8 @@ fn ready_table(copier: &mut Copier, waiting: &mut Waiting, look: Look, start: u3
     }
 }
 
-/// Lets the sides of a pair wait that hang on what is not settled, or forgets them.
-#[cold]
+/// Lets the sides of a pair wait that hang on what is not settled, or forgets them. The pair was just
+/// looked at, and hangs on a side.
 #[inline(never)]
 fn note_pair(
     copier: &Copier,
@@ -142,8 +142,8 @@ fn note_pair(
 {
     match weakness {
         Weakness::Strong | Weakness::KeyAndValue => {}
-        Weakness::Key => note_side(copier, waiting, look, key, side),
-        Weakness::Value => note_side(copier, waiting, look, value, side),
+        Weakness::Key => note_open(waiting, look, key, side),
+        Weakness::Value => note_open(waiting, look, value, side),
         Weakness::KeyOrValue => {
             note_side(copier, waiting, look, key, side);
             note_side(copier, waiting, look, value, side.saturating_add(1));
@@ -156,9 +156,14 @@ fn note_side(copier: &Copier, waiting: &mut Waiting, look: Look, word: u64, side
     ghost a: { NamedHeap }
     requires { CanLookUp a (state copier.now) word }
 {
-    if copier.is_placed(word) {
-        return;
+    if !copier.is_placed(word) {
+        note_open(waiting, look, word, side);
     }
+}
+
+/// The same of a word whose object is not settled.
+#[inline(always)]
+fn note_open(waiting: &mut Waiting, look: Look, word: u64, side: u32) {
     if let Some((index, _)) = untag(word) {
         match look {
             Look::Wait => waiting.wait(index, side),

@@ -6,11 +6,5 @@ use Rattle.weak_refs.proofs.readying.note_pair.Goals as goal
 pub note_side-requires : goal.note_side-requires
 note_side-requires g c = key-looked g.a (state c.args.copier.now) c.args.weakness c.args.key c.args.value c.requires
 
-pub note_side-requires-in-Value : goal.note_side-requires-in-Value
-note_side-requires-in-Value g c = value-looked g.a (state c.args.copier.now) c.args.weakness c.args.key c.args.value c.requires
-
 pub note_side-requires-in-KeyOrValue : goal.note_side-requires-in-KeyOrValue
-note_side-requires-in-KeyOrValue g c = key-looked g.a (state c.args.copier.now) c.args.weakness c.args.key c.args.value c.requires
-
-pub note_side-requires-in-KeyOrValue-2 : goal.note_side-requires-in-KeyOrValue-2
-note_side-requires-in-KeyOrValue-2 g c = value-looked g.a (state c.args.copier.now) c.args.weakness c.args.key c.args.value c.requires
+note_side-requires-in-KeyOrValue g c = value-looked g.a (state c.args.copier.now) c.args.weakness c.args.key c.args.value c.requires
