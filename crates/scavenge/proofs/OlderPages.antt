@@ -15,7 +15,7 @@ use Rattle.heap_terms.specs.OnPages.{IsOnPage, IsPageOfRun, IsPlaced}
 use Rattle.heap_terms.specs.Placement.{scratch}
 use Rattle.heap_terms.specs.Regions.{is_small}
 use Rattle.object_walk.proofs.Places.{begins_below, ends_before, laid_fill}
-use Rattle.pass_laws.proofs.Sizes.{large_least, large_needs, words_least}
+use Rattle.pass_laws.proofs.Sizes.{large_least, large_needs}
 use Rattle.copy_space.specs.Midway.{Midway}
 use Rattle.copy_space.specs.Pages.{is_page_of}
 use Rattle.copy_space.specs.State.{CopyState}
@@ -23,7 +23,7 @@ use Rattle.copy_space.proofs.Referents.{its}
 use Rattle.scavenge.specs.Fields.{fields_behind, is_weak_kind}
 use Rattle.scavenge.specs.Older.{may_have_fields, has_roots, root_words, IsEdge, CanScanPiece, AreObjectsScanned, IsPieceScanned, CanScanPage}
 use Rattle.scavenge.specs.Noting.{HasAll, IsDone}
-use Rattle.scavenge.specs.Scanning.{Scans, OthersScanned}
+use Rattle.scavenge.specs.Scanning.{Scans}
 use Rattle.scavenge.proofs.NotedStarts.{done-later, kind-weak}
 use Rattle.scavenge.proofs.OlderPieces.{older, other-on_page}
 use Rattle.scavenge.proofs.Shapes.{field_is_behind}

@@ -1,5 +1,5 @@
 -- From where on all pages are free, nothing is of another generation.
-use Rattle.std.proofs.Common.{◌≡◌, ◌≢◌, ℕ, ◌+◌, ◌*◌, ◌/◌, ◌<◌, ◌≤◌, inl, inr, List, Some, true, false, refl, sym, ◌∙◌, ap, arith}
+use Rattle.std.proofs.Common.{◌≡◌, ◌≢◌, ℕ, ◌*◌, ◌/◌, ◌<◌, ◌≤◌, inl, inr, List, Some, true, false, refl, sym, ◌∙◌, ap, arith}
 use Rattle.std.proofs.lemmas.Bool.{cases_lt, false≢true}
 use Rattle.heap_terms.specs.declared.pages.Entry.{Entry}
 use Rattle.heap_terms.specs.declared.pages.Entry.TheVariants.{Free, Used}
@@ -12,7 +12,7 @@ use Rattle.copy_space.specs.State.{CopyState}
 use Rattle.copy_space.proofs.Referents.{its}
 use Rattle.scavenge.specs.Noting.{IsDone}
 use Rattle.scavenge.specs.Scanning.{Scans, OthersScanned}
-use Rattle.scavenge.proofs.OlderPages.{BeginsOn, begins_on}
+use Rattle.scavenge.proofs.OlderPages.{begins_on}
 
 pub free-other : (e : Entry) (g : ℕ) → is_free e ≡ true → is_page_of e g ≡ false
 free-other Free g free = refl

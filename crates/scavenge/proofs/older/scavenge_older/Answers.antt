@@ -34,11 +34,19 @@ scan_page-requires g c =
     let end : c.used_end-page-end.result ≤ length s.pages = rw c.pages-3.ensures at c.used_end-page-end.ensures.inside in
     let before = page-count g.a s c.requires.0.places in
     let reach_now = reach-stays g.a s t c.reach_of-reach.result c.requires.0 c.loop-page.invariant.scans
-        (subst (λ (k : ℕ). IsReach s.pages k c.reach_of-reach.result) (ap (λ p. p.generation) c.pass-collected.ensures)
-        (subst (λ (es : List Entry). IsReach es c.pass-collected.result.generation c.reach_of-reach.result) c.pages-2.ensures c.reach_of-reach.ensures)) in
-    (page-can g.a s t c.loop-page.page c.root_words-words.result c.loop-page.invariant.scans words (omega arith), (noting.can, (λ idle. none-stays g.a s t c.requires.0 c.loop-page.invariant.scans
-        (subst (λ (k : ℕ). HasNoPage s.pages k) (ap (λ p. p.generation) c.pass-collected.ensures)
-        (subst (λ (es : List Entry). HasNoPage es c.pass-collected.result.generation) c.pages.ensures (c.has_no_page-idle.ensures idle))), reach_now)))
+    (subst (λ (k : ℕ). IsReach s.pages k c.reach_of-reach.result) (ap (λ p. p.generation) c.pass-collected.ensures)
+    (subst (λ (es : List Entry). IsReach es c.pass-collected.result.generation c.reach_of-reach.result) c.pages-2.ensures c.reach_of-reach.ensures)) in (
+      page-can g.a s t c.loop-page.page c.root_words-words.result c.loop-page.invariant.scans words (omega arith),
+      (
+        noting.can,
+        (
+          λ idle. none-stays g.a s t c.requires.0 c.loop-page.invariant.scans
+              (subst (λ (k : ℕ). HasNoPage s.pages k) (ap (λ p. p.generation) c.pass-collected.ensures)
+              (subst (λ (es : List Entry). HasNoPage es c.pass-collected.result.generation) c.pages.ensures (c.has_no_page-idle.ensures idle))),
+          reach_now,
+        ),
+      ),
+    )
 
 pub loop-page-preserved : goal.loop-page-preserved
 loop-page-preserved g c =
