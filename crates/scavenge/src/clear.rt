@@ -1,7 +1,7 @@
 //! Pages of conses that need no scan, since no word on them refers to the generation that is collected.
 //! Reading alone tells that, and is faster than a scan.
 
-ghost use Rattle.std.specs.Prelude.{◌≡◌, ◌+◌, ◌*◌, ◌<◌, ◌≤◌, length, true, false, nat_le, nat_lt, ◌&&◌};
+ghost use Rattle.std.specs.Prelude.{◌≡◌, ◌+◌, ◌*◌, ◌<◌, ◌≤◌, length, true, false};
 ghost use Rattle.heap_terms.specs.Heap.{entry_at};
 ghost use Rattle.heap_terms.specs.Layout.{page_words};
 ghost use Rattle.copy_space.specs.Pages.{is_page_of};
@@ -98,24 +98,15 @@ fn refers_to(pages: &PageTable, word: u64, generation: u8) -> bool
     }
 }
 
-/// Whether a word lies between two.
-#[inline(always)]
-fn is_within(word: u64, reach: Reach) -> bool
-    ensures { result ≡ (nat_le reach.from word && nat_lt word reach.end) }
-{
-    (reach.from <= word) & (word < reach.end)
-}
-
-/// Whether some word does.
+/// Whether some word lies between two. It looks at each word, without a branch.
 fn is_any_within(words: &[u64], reach: Reach) -> bool
     ensures { result ≡ false → AreBeyond words.now reach }
 {
+    let mut found = false;
     for word in words {
-        if is_within(*word, reach) {
-            return true;
-        }
+        found |= (reach.from <= *word) & (*word < reach.end);
     }
-    false
+    found
 }
 
 /// Whether none of these words does.
