@@ -234,6 +234,7 @@ impl<'s, 't, 'm, 'p, 'n> Copier<'s, 't, 'm, 'p, 'n> {
 
     /// The word after the pass of the value that a word stands for; none where the value is not
     /// settled.
+    #[inline(always)]
     pub fn word_now(&self, word: u64) -> Option<u64>
         ghost a: { NamedHeap }
         requires { CanLookUp a (state self.now) word }

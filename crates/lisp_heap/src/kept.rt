@@ -12,9 +12,23 @@ use heap_terms::{Kind, PassRecord, PinAt, Placing};
 use lisp_words::{read_header, size_of};
 use word_space::Space;
 
-/// How many words the object takes that begins at an index. A word that is no header is the first
-/// value of a cons.
+/// How many words the object takes that begins at an index. Each header is 1 modulo 4, and no value
+/// with which a cons begins is.
+#[inline(always)]
 fn size_at(space: &Space, index: u32) -> u32
+    requires { HasSizeAt space.now index }
+    ensures size { (size : ℕ) → IsSizeAt space.now index size → result ≡ size }
+    ensures most { result ≤ 65536 }
+{
+    if space.read(index) % 4 != 1 {
+        return 2;
+    }
+    headed_size_at(space, index)
+}
+
+/// The same of an object with a header.
+#[inline(never)]
+fn headed_size_at(space: &Space, index: u32) -> u32
     requires { HasSizeAt space.now index }
     ensures size { (size : ℕ) → IsSizeAt space.now index size → result ≡ size }
     ensures most { result ≤ 65536 }

@@ -248,7 +248,6 @@ fn settle_side(copier: &mut Copier, side: u64)
 }
 
 /// The same of a side that may not be settled yet.
-#[cold]
 #[inline(never)]
 fn settle_fresh(copier: &mut Copier, side: u64)
     ghost a: { NamedHeap }
