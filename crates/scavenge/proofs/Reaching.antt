@@ -132,6 +132,6 @@ in-part space part pages g from count is inside all k below =
     let long : length part ≡ count = ap length is ∙ length-take-le count (drop from space) (omega (arith, rest, inside)) in
     let plus : 0 + k ≡ k = omega arith in
     let value : slice_index part (0 + k) ≡ slice_index space (from + k) =
-        ap (λ ws. slice_index ws (0 + k)) is ∙ ap (λ (i : ℕ). slice_index (take count (drop from space)) i) plus ∙ get_or-take count (drop from space) k 0 below
-        ∙ get_or-drop from space k 0 in
+    ap (λ ws. slice_index ws (0 + k)) is ∙ ap (λ (i : ℕ). slice_index (take count (drop from space)) i) plus ∙ get_or-take count (drop from space) k 0 below
+    ∙ get_or-drop from space k 0 in
     subst (λ (w : ℕ). IsElsewhere pages g w) value (all k (omega (arith, long, below)))
