@@ -63,7 +63,10 @@ pub none-stays : (a : NamedHeap) (s t : CopyState) → Midway a s → Scans a s 
 none-stays a s t h k none page = other-stays a s t h k page (none page)
 
 pub reach-stays : (a : NamedHeap) (s t : CopyState) (reach : Reach) → Midway a s → Scans a s t → IsReach s.pages s.pass.generation reach → IsReach t.pages t.pass.generation reach
-reach-stays a s t reach h k all = λ word index tag tagged out. other-stays a s t h k (index / 512) (all word index tag tagged out)
+reach-stays a s t reach h k all = record {
+  low = all.low;
+  others = λ word index tag tagged out. other-stays a s t h k (index / 512) (all.others word index tag tagged out);
+}
 
 -- then each value is settled, and its word is what it was
 idle-word : (a : NamedHeap) (s : CopyState) → Midway a s → HasNoPage a.pages s.pass.generation → (v : Value) (word : ℕ) → IsWordOf a s v word → IsNewWord a s v word

@@ -1,7 +1,8 @@
 -- Between which words those lie that refer to a generation.
-use Rattle.std.proofs.Common.{◌≡◌, ◌≢◌, ℕ, ◌+◌, ◌-◌, ◌*◌, ◌/◌, ◌<◌, ◌≤◌, ◌⊎◌, inl, inr, List, Bool, true, false, length, take, drop, refl, sym, ◌∙◌, ap, subst, arith}
-use Rattle.std.specs.Prelude.{◌&&◌, ◌||◌, nat_le, nat_lt, slice_index}
-use Rattle.std.proofs.lemmas.Bool.{cases_lt, cases_eq, and_from, le-leb, lt-ltb, false≢true}
+use Rattle.std.proofs.Common.{◌≡◌, ◌≢◌, ℕ, ◌+◌, ◌-◌, ◌*◌, ◌/◌, ◌%◌, ◌^◌, ◌<◌, ◌≤◌, ◌⊎◌, inl, inr, List, length, take, drop, ◌∙◌, ap, subst, arith}
+use Rattle.std.specs.Prelude.{bit_and, bit_or, slice_index}
+use Rattle.std.proofs.lemmas.Bool.{cases_lt, cases_eq}
+use Rattle.std.proofs.lemmas.Nat.{and_le_l, and_le_r, or_lt}
 use Rattle.std.proofs.lemmas.List.{get_or-take, get_or-drop, length-take-le, length-drop}
 use Rattle.heap_terms.specs.declared.limits.TheConstants.{MOST_WORDS}
 use Rattle.heap_terms.specs.declared.pages.Entry.{Entry}
@@ -83,41 +84,52 @@ address_or_not word = elim (cases_lt (its_index word) MOST_WORDS) [
 pub elsewhere : (pages : List Entry) (g : ℕ) (reach : Reach) → IsReach pages g reach → (word : ℕ) → (word < reach.from) ⊎ (reach.end ≤ word) → IsElsewhere pages g word
 elsewhere pages g reach all word out = elim (address_or_not word) [
   | inr none ↦ inl none
-  | inl it ↦ inr (record { index = it.index; tag = it.tag; tagged = it.tagged; other = all word it.index it.tag it.tagged out })
+  | inl it ↦ inr (record { index = it.index; tag = it.tag; tagged = it.tagged; other = all.others word it.index it.tag it.tagged out })
 ]
 
 -- the addresses on the pages between two
-pub reach-of : (pages : List Entry) (g first end from past : ℕ) → LieWithin pages g first end → from ≡ base_address + 8 * (512 * first) + 3 → past ≡ base_address + 8 * (512 * end) + 3 →
-    IsReach pages g (record { from = from; end = past })
-reach-of pages g first end from past within from_is past_is = λ word index tag h out.
-    (let least = least_bits tag in
-    let most = most_bits tag in
-    let even = h.even in
-    let is : word ≡ base_address + 8 * index + tag_bits tag = h.word_is in
-    within (index / 512) (elim out [
-      | inl low ↦ inl (omega (arith, least, is, low, from_is))
-      | inr high ↦ inr (omega (arith, most, even, is, high, past_is))
-    ]))
+pub reach-of : (pages : List Entry) (g first end from past : ℕ) → LieWithin pages g first end → end ≤ 1024 → from ≡ base_address + 8 * (512 * first) + 3
+    → past ≡ base_address + 8 * (512 * end) + 3 → IsReach pages g (record { from = from; end = past })
+reach-of pages g first end from past within few from_is past_is = record {
+  low = omega (arith, few, past_is);
+  others = λ word index tag h out.
+      (let least = least_bits tag in
+      let most = most_bits tag in
+      let even = h.even in
+      let is : word ≡ base_address + 8 * index + tag_bits tag = h.word_is in
+      within (index / 512) (elim out [
+        | inl low ↦ inl (omega (arith, least, is, low, from_is))
+        | inr high ↦ inr (omega (arith, most, even, is, high, past_is))
+      ]));
+}
+
+-- a difference of two words
+difference : (a b : ℕ) → b ≤ a → a < 2 ^ 63 → (a + (2 ^ 64 - b)) % 2 ^ 64 < 2 ^ 63
+difference a b least low = omega (arith, least, low)
 
 -- one word more is compared
-outside : (w from end : ℕ) → (nat_le from w && nat_lt w end) ≡ false → (w < from) ⊎ (end ≤ w)
-outside w from end e = elim (cases_lt w from) [
-  | inl low ↦ inl low
+differences : (w from end : ℕ) → from ≤ w → w < end → end < 2 ^ 63 → bit_or ((w + (2 ^ 64 - from)) % 2 ^ 64) ((end + (2 ^ 64 - w)) % 2 ^ 64) < 2 ^ 63
+differences w from end above below low =
+    or_lt 63 ((w + (2 ^ 64 - from)) % 2 ^ 64) ((end + (2 ^ 64 - w)) % 2 ^ 64) (difference w from above (omega (arith, below, low))) (difference end w (omega (arith, below)) low)
+
+outside : (w from end apart : ℕ) → end < 2 ^ 63 → 2 ^ 63 ≤ bit_and apart (bit_or ((w + (2 ^ 64 - from)) % 2 ^ 64) ((end + (2 ^ 64 - w)) % 2 ^ 64))
+    → (w < from) ⊎ (end ≤ w)
+outside w from end apart low top = elim (cases_lt w from) [
+  | inl under ↦ inl under
   | inr above ↦ elim (cases_lt w end) [
     | inr high ↦ inr high
-    | inl below ↦ absurd (false≢true (sym e ∙ and_from (nat_le from w) (nat_lt w end) (le-leb from w above) (lt-ltb w end below)))
+    | inl below ↦ absurd (omega (arith, top, differences w from end above below low, and_le_r apart (bit_or ((w + (2 ^ 64 - from)) % 2 ^ 64) ((end + (2 ^ 64 - w)) % 2 ^ 64))))
   ]
 ]
 
-pub beyond-more : (words : List ℕ) (reach : Reach) (found : Bool) (n : ℕ)
-    → (found ≡ false → (k : ℕ) → k < n → (slice_index words k < reach.from) ⊎ (reach.end ≤ slice_index words k))
-    → (found || (nat_le reach.from (slice_index words n) && nat_lt (slice_index words n) reach.end)) ≡ false
+pub beyond-more : (words : List ℕ) (reach : Reach) (apart n : ℕ) → reach.end < 2 ^ 63
+    → (2 ^ 63 ≤ apart → (k : ℕ) → k < n → (slice_index words k < reach.from) ⊎ (reach.end ≤ slice_index words k))
+    → 2 ^ 63 ≤ bit_and apart (bit_or ((slice_index words n + (2 ^ 64 - reach.from)) % 2 ^ 64) ((reach.end + (2 ^ 64 - slice_index words n)) % 2 ^ 64))
     → (k : ℕ) → k < n + 1 → (slice_index words k < reach.from) ⊎ (reach.end ≤ slice_index words k)
-beyond-more words reach true n before none k below = absurd (false≢true (sym none))
-beyond-more words reach false n before none k below = elim (cases_lt k n) [
-  | inl sooner ↦ before refl k sooner
+beyond-more words reach apart n low before top k below = elim (cases_lt k n) [
+  | inl sooner ↦ before (omega (arith, top, and_le_l apart (bit_or ((slice_index words n + (2 ^ 64 - reach.from)) % 2 ^ 64) ((reach.end + (2 ^ 64 - slice_index words n)) % 2 ^ 64)))) k sooner
   | inr here ↦ (let at : n ≡ k = omega arith in
-      subst (λ (i : ℕ). (slice_index words i < reach.from) ⊎ (reach.end ≤ slice_index words i)) at (outside (slice_index words n) reach.from reach.end none))
+      subst (λ (i : ℕ). (slice_index words i < reach.from) ⊎ (reach.end ≤ slice_index words i)) at (outside (slice_index words n) reach.from reach.end apart low top))
 ]
 
 -- words none of which lies in reach

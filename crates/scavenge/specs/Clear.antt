@@ -1,5 +1,5 @@
 -- Pages of conses that need no scan: no word on them refers to a place on a page of the generation that is collected.
-use Rattle.std.specs.Prelude.{◌≡◌, ℕ, ◌+◌, ◌*◌, ◌/◌, ◌<◌, ◌≤◌, ◌⊎◌, List, Bool, true, false, length, slice_index}
+use Rattle.std.specs.Prelude.{◌≡◌, ℕ, ◌+◌, ◌*◌, ◌/◌, ◌^◌, ◌<◌, ◌≤◌, ◌⊎◌, List, Bool, true, false, length, slice_index}
 use Rattle.heap_terms.specs.declared.kinds.PageType.{PageType}
 use Rattle.heap_terms.specs.declared.kinds.PageType.TheVariants as types
 use Rattle.heap_terms.specs.declared.pages.Entry.{Entry}
@@ -31,9 +31,10 @@ abbrev pub LieWithin : List Entry → ℕ → ℕ → ℕ → Type 0
 LieWithin pages g first end = (page : ℕ) → (page < first) ⊎ (end ≤ page) → is_page_of (entry_at pages page) g ≡ false
 
 -- the addresses of places on them lie from one word on and below another
-abbrev pub IsReach : List Entry → ℕ → Reach → Type 0
-IsReach pages g reach = (word index : ℕ) (tag : Lowtag) → IsTagged word index tag → (word < reach.from) ⊎ (reach.end ≤ word) →
-    is_page_of (entry_at pages (index / page_words)) g ≡ false
+pub record IsReach (pages : List Entry) (g : ℕ) (reach : Reach) : Type 0 where
+  pub low : reach.end < 2 ^ 63
+  pub others : (word index : ℕ) (tag : Lowtag) → IsTagged word index tag → (word < reach.from) ⊎ (reach.end ≤ word) →
+      is_page_of (entry_at pages (index / page_words)) g ≡ false
 
 -- no word lies in reach
 abbrev pub AreBeyond : List ℕ → Reach → Type 0

@@ -1,7 +1,7 @@
 //! Pages of conses that need no scan, since no word on them refers to the generation that is collected.
 //! Reading alone tells that, and is faster than a scan.
 
-ghost use Rattle.std.specs.Prelude.{◌≡◌, ◌+◌, ◌*◌, ◌<◌, ◌≤◌, length, true, false};
+ghost use Rattle.std.specs.Prelude.{◌≡◌, ◌+◌, ◌*◌, ◌^◌, ◌<◌, ◌≤◌, length, true, false};
 ghost use Rattle.heap_terms.specs.Heap.{entry_at};
 ghost use Rattle.heap_terms.specs.Layout.{page_words};
 ghost use Rattle.copy_space.specs.Pages.{is_page_of};
@@ -98,15 +98,21 @@ fn refers_to(pages: &PageTable, word: u64, generation: u8) -> bool
     }
 }
 
-/// Whether some word lies between two. It looks at each word, without a branch.
-fn is_any_within(words: &[u64], reach: Reach) -> bool
+/// No word that refers to a place has this bit.
+const TOP_BIT: u64 = 1 << 63;
+
+/// Whether a word may lie between two: where none does, it may say so of the end itself. It looks at
+/// each word, without a branch, so that several are looked at with one instruction.
+fn may_be_within(words: &[u64], reach: Reach) -> bool
+    requires { reach.end < 2 ^ 63 }
     ensures { result ≡ false → AreBeyond words.now reach }
 {
-    let mut found = false;
+    let mut apart = u64::MAX;
     for word in words {
-        found |= (reach.from <= *word) & (*word < reach.end);
+        // Of a word between the two neither difference has the top bit.
+        apart &= word.wrapping_sub(reach.from) | reach.end.wrapping_sub(*word);
     }
-    found
+    apart < TOP_BIT
 }
 
 /// Whether none of these words does.
@@ -138,7 +144,7 @@ fn is_clear(
 {
     match space.window(from, count) {
         // Comparing alone tells it of most pages.
-        Some(words) => !is_any_within(words, reach) || are_clear(words, pages, generation),
+        Some(words) => !may_be_within(words, reach) || are_clear(words, pages, generation),
         None => false,
     }
 }

@@ -1,5 +1,0 @@
-use Rattle.scavenge.proofs.Reaching.{beyond-more}
-use Rattle.scavenge.proofs.clear.is_any_within.Goals as goal
-
-pub loop-word-preserved : goal.loop-word-preserved
-loop-word-preserved c = beyond-more c.args.words.now c.args.reach c.loop-word.found c.loop-word.word-index c.loop-word.invariant

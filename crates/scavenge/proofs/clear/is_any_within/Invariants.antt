@@ -1,6 +1,0 @@
-use Rattle.std.proofs.Common.{◌≡◌, ℕ, ◌<◌, ◌≤◌, ◌⊎◌, false}
-use Rattle.std.specs.Prelude.{slice_index}
-use Rattle.scavenge.proofs.clear.is_any_within.Given as goal
-
-abbrev pub invariant-loop-word : goal.invariant-loop-word
-invariant-loop-word l = l.found ≡ false → (k : ℕ) → k < l.word-index → (slice_index l.words k < l.reach.from) ⊎ (l.reach.end ≤ slice_index l.words k)
