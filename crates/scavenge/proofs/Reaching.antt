@@ -1,8 +1,8 @@
 -- Between which words those lie that refer to a generation.
 use Rattle.std.proofs.Common.{◌≡◌, ◌≢◌, ℕ, ◌+◌, ◌-◌, ◌*◌, ◌/◌, ◌%◌, ◌^◌, ◌<◌, ◌≤◌, ◌⊎◌, inl, inr, List, length, take, drop, ◌∙◌, ap, subst, arith}
-use Rattle.std.specs.Prelude.{bit_and, bit_or, slice_index}
+use Rattle.std.specs.Prelude.{bit_or, slice_index}
 use Rattle.std.proofs.lemmas.Bool.{cases_lt, cases_eq}
-use Rattle.std.proofs.lemmas.Nat.{and_le_l, and_le_r, or_lt}
+use Rattle.std.proofs.lemmas.Nat.{le_or_l, le_or_r}
 use Rattle.std.proofs.lemmas.List.{get_or-take, get_or-drop, length-take-le, length-drop}
 use Rattle.heap_terms.specs.declared.limits.TheConstants.{MOST_WORDS}
 use Rattle.heap_terms.specs.declared.pages.Entry.{Entry}
@@ -103,33 +103,32 @@ reach-of pages g first end from past within few from_is past_is = record {
       ]));
 }
 
--- a difference of two words
-difference : (a b : ℕ) → b ≤ a → a < 2 ^ 63 → (a + (2 ^ 64 - b)) % 2 ^ 64 < 2 ^ 63
-difference a b least low = omega (arith, least, low)
+-- how far a word lies above from, halved, less more than half of how far end does
+abbrev beside : ℕ → ℕ → ℕ → ℕ
+beside from end w = ((w + (2 ^ 64 - from)) % 2 ^ 64 / 2 + (2 ^ 64 - ((end + (2 ^ 64 - from)) % 2 ^ 64 / 2 + 1))) % 2 ^ 64
+
+within : (w from end : ℕ) → from ≤ w → w < end → end < 2 ^ 63 → 2 ^ 63 ≤ beside from end w
+within w from end above below low = omega (arith, above, below, low)
 
 -- one word more is compared
-differences : (w from end : ℕ) → from ≤ w → w < end → end < 2 ^ 63 → bit_or ((w + (2 ^ 64 - from)) % 2 ^ 64) ((end + (2 ^ 64 - w)) % 2 ^ 64) < 2 ^ 63
-differences w from end above below low =
-    or_lt 63 ((w + (2 ^ 64 - from)) % 2 ^ 64) ((end + (2 ^ 64 - w)) % 2 ^ 64) (difference w from above (omega (arith, below, low))) (difference end w (omega (arith, below)) low)
-
-outside : (w from end apart : ℕ) → end < 2 ^ 63 → 2 ^ 63 ≤ bit_and apart (bit_or ((w + (2 ^ 64 - from)) % 2 ^ 64) ((end + (2 ^ 64 - w)) % 2 ^ 64))
-    → (w < from) ⊎ (end ≤ w)
-outside w from end apart low top = elim (cases_lt w from) [
+outside : (w from end : ℕ) → end < 2 ^ 63 → beside from end w < 2 ^ 63 → (w < from) ⊎ (end ≤ w)
+outside w from end low none = elim (cases_lt w from) [
   | inl under ↦ inl under
   | inr above ↦ elim (cases_lt w end) [
     | inr high ↦ inr high
-    | inl below ↦ absurd (omega (arith, top, differences w from end above below low, and_le_r apart (bit_or ((w + (2 ^ 64 - from)) % 2 ^ 64) ((end + (2 ^ 64 - w)) % 2 ^ 64))))
+    | inl below ↦ absurd (omega (arith, none, within w from end above below low))
   ]
 ]
 
-pub beyond-more : (words : List ℕ) (reach : Reach) (apart n : ℕ) → reach.end < 2 ^ 63
-    → (2 ^ 63 ≤ apart → (k : ℕ) → k < n → (slice_index words k < reach.from) ⊎ (reach.end ≤ slice_index words k))
-    → 2 ^ 63 ≤ bit_and apart (bit_or ((slice_index words n + (2 ^ 64 - reach.from)) % 2 ^ 64) ((reach.end + (2 ^ 64 - slice_index words n)) % 2 ^ 64))
+pub beyond-more : (words : List ℕ) (reach : Reach) (found n : ℕ) → reach.end < 2 ^ 63
+    → (found < 2 ^ 63 → (k : ℕ) → k < n → (slice_index words k < reach.from) ⊎ (reach.end ≤ slice_index words k))
+    → bit_or found (beside reach.from reach.end (slice_index words n)) < 2 ^ 63
     → (k : ℕ) → k < n + 1 → (slice_index words k < reach.from) ⊎ (reach.end ≤ slice_index words k)
-beyond-more words reach apart n low before top k below = elim (cases_lt k n) [
-  | inl sooner ↦ before (omega (arith, top, and_le_l apart (bit_or ((slice_index words n + (2 ^ 64 - reach.from)) % 2 ^ 64) ((reach.end + (2 ^ 64 - slice_index words n)) % 2 ^ 64)))) k sooner
+beyond-more words reach found n low before none k below = elim (cases_lt k n) [
+  | inl sooner ↦ before (omega (arith, none, le_or_l found (beside reach.from reach.end (slice_index words n)))) k sooner
   | inr here ↦ (let at : n ≡ k = omega arith in
-      subst (λ (i : ℕ). (slice_index words i < reach.from) ⊎ (reach.end ≤ slice_index words i)) at (outside (slice_index words n) reach.from reach.end apart low top))
+      subst (λ (i : ℕ). (slice_index words i < reach.from) ⊎ (reach.end ≤ slice_index words i)) at
+      (outside (slice_index words n) reach.from reach.end low (omega (arith, none, le_or_r found (beside reach.from reach.end (slice_index words n))))))
 ]
 
 -- words none of which lies in reach

@@ -101,18 +101,19 @@ fn refers_to(pages: &PageTable, word: u64, generation: u8) -> bool
 /// No word that refers to a place has this bit.
 const TOP_BIT: u64 = 1 << 63;
 
-/// Whether a word may lie between two: where none does, it may say so of the end itself. It looks at
-/// each word, without a branch, so that several are looked at with one instruction.
+/// Whether a word may lie between two: it may say so where one lies just above. It looks at each word,
+/// without a branch, so that several are looked at with one instruction.
 fn may_be_within(words: &[u64], reach: Reach) -> bool
     requires { reach.end < 2 ^ 63 }
     ensures { result ≡ false → AreBeyond words.now reach }
 {
-    let mut apart = u64::MAX;
+    let half = (reach.end.wrapping_sub(reach.from) >> 1) + 1;
+    let mut found = 0;
     for word in words {
-        // Of a word between the two neither difference has the top bit.
-        apart &= word.wrapping_sub(reach.from) | reach.end.wrapping_sub(*word);
+        // Half the distance of a word between the two is less than this, so the difference has the top bit.
+        found |= (word.wrapping_sub(reach.from) >> 1).wrapping_sub(half);
     }
-    apart < TOP_BIT
+    found >= TOP_BIT
 }
 
 /// Whether none of these words does.
