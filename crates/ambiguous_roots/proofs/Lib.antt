@@ -11,3 +11,4 @@ pub mod Finding
 pub mod OneWord
 pub mod Answered
 pub mod Tested
+pub mod ConsPages

@@ -1,3 +1,4 @@
+pub mod Conses
 pub mod Hinted
 pub mod HitStarts
 pub mod Pinning

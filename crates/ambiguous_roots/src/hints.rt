@@ -1,6 +1,6 @@
 //! To which double words of a space ambiguous words point.
 
-ghost use Rattle.std.specs.Prelude.{◌≡◌, ◌⊎◌, ℕ, ◌*◌, ◌/◌, ◌<◌, ◌≤◌, length, replicate, slice_set, IfOk, false};
+ghost use Rattle.std.specs.Prelude.{◌≡◌, ◌⊎◌, ℕ, ◌+◌, ◌*◌, ◌/◌, ◌<◌, ◌≤◌, length, replicate, slice_set, IfOk, false};
 ghost use Rattle.heap_terms.specs.declared.limits.TheConstants.{MOST_PAGES};
 ghost use Rattle.lisp_words.specs.declared.pointers.Lowtag.{Lowtag};
 ghost use Rattle.lisp_words.specs.Tagged.{IsTagged};
@@ -10,6 +10,9 @@ use heap_terms::{Memory, PAGE_WORDS};
 use lisp_words::untag;
 use std::alloc::Global;
 use std::marker::Model;
+
+/// How many double words a page has.
+const PAGE_DOUBLES: usize = PAGE_WORDS as usize / 2;
 
 /// A flag for each double word of a space, which says whether some ambiguous word may refer to an
 /// object that begins there. Contracts see the list of the flags.
@@ -49,6 +52,15 @@ impl Hints {
         self.hints[(index / 2) as usize]
     }
 
+    /// Whether some flag is set for a page.
+    pub(crate) fn is_any_on(&self, page: u32) -> bool
+        requires { 256 * page + 256 ≤ length self.now }
+        ensures { result ≡ false → (k : ℕ) → 256 * page ≤ k → k < 256 * page + 256 → hint_of self.now k ≡ false }
+    {
+        let from = PAGE_DOUBLES * page as usize;
+        are_any_set(&self.hints[from..from + PAGE_DOUBLES])
+    }
+
     /// Gives the double word to which a word points the flag `hint`. Every other flag stays, and
     /// where the word points to none of the space all do.
     fn set_for(&mut self, word: u64, hint: bool)
@@ -75,4 +87,16 @@ impl Hints {
             self.set_for(*word, hint);
         }
     }
+}
+
+/// Whether one of some flags is set. It looks at each, without a branch, so that many are looked at with
+/// one instruction.
+fn are_any_set(flags: &[bool]) -> bool
+    ensures { result ≡ false → (k : ℕ) → k < length flags.now → hint_of flags.now k ≡ false }
+{
+    let mut any = false;
+    for flag in flags {
+        any |= *flag;
+    }
+    any
 }

@@ -3,6 +3,7 @@
 //! they hit is SBCL's; that a word has to be equal to that of a reference is this project's own.
 #![tactic(auto)]
 
+mod conses;
 mod hints;
 mod hitting;
 pub mod laws;

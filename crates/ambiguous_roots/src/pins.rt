@@ -11,6 +11,7 @@ ghost use Rattle.ambiguous_roots.specs.Hinted.{hint_of};
 ghost use Rattle.ambiguous_roots.specs.HitStarts.{AreHitStarts, CanFindPins};
 ghost use Rattle.ambiguous_roots.specs.Pinning.{is_referred, referred, CanPinAll, is_walked, CanPinPages, AreHitBefore, how_many_before};
 
+use crate::conses::unhinted_conses;
 use crate::hints::Hints;
 use heap_terms::{Entry, MOST_PAGES};
 use lisp_words::tag;
@@ -84,6 +85,31 @@ fn is_walked(entry: Entry, page: u32, generation: u8) -> bool
 
 /// Pins the objects that begin on a page and are hit. How many objects begin there.
 fn pin_page(
+    space: &Space,
+    pages: &PageTable,
+    page: u32,
+    ambiguous: &[u64],
+    hints: &Hints,
+    pins: &mut PinSet,
+) -> u32
+    requires paged { length space.now ≡ page_words * length pages.now }
+    requires inside { page < length pages.now }
+    requires hints { 2 * length hints.now ≡ length space.now }
+    requires laid { IsLaidOut space.now pages.now page }
+    requires can { (starts : List ObjectStart) → AreObjectsOn space.now pages.now page starts → CanPinAll ambiguous.now hints.now pins.old (map found_at starts) }
+    ensures pins { (starts : List ObjectStart) → AreObjectsOn space.now pages.now page starts →
+        pins.new.listed ≡ pins.old.listed ++ referred ambiguous.now (map found_at starts) }
+    ensures most { pins.new.most ≡ pins.old.most }
+    ensures count { (starts : List ObjectStart) → AreObjectsOn space.now pages.now page starts → result ≡ length starts }
+{
+    match unhinted_conses(space, pages, page, hints) {
+        Some(count) => count,
+        None => pin_walked(space, pages, page, ambiguous, hints, pins),
+    }
+}
+
+/// The same, object by object.
+fn pin_walked(
     space: &Space,
     pages: &PageTable,
     page: u32,

@@ -1,6 +1,6 @@
 use Rattle.std.proofs.Common.{◌≡◌, ◌++◌, length}
 use Rattle.ambiguous_roots.specs.Pinning.{referred}
-use Rattle.ambiguous_roots.proofs.pins.pin_page.Given as goal
+use Rattle.ambiguous_roots.proofs.pins.pin_walked.Given as goal
 
 abbrev pub invariant-loop-found : goal.invariant-loop-found
 invariant-loop-found l = record {
