@@ -57,7 +57,8 @@ fn make_next(
 }
 
 /// Makes the passes of a collection up to a generation, and adds their records to an empty list. At
-/// most six are made, each with a room of its own for its record. It takes no memory.
+/// most six are made, each with a room of its own for its record. It takes no memory, and leaves the rooms
+/// that it did not need.
 pub fn make_passes(
     space: &mut Space,
     pages: &mut PageTable,
@@ -66,14 +67,14 @@ pub fn make_passes(
     scratch: &mut Scratch,
     stats: &mut GenStats,
     last: u8,
-    mut rooms: Vec<RecordRoom>,
+    rooms: &mut Vec<RecordRoom>,
     passes: &mut Vec<PassRecord>,
 )
     ghost h: { Rooted }
     requires stand { Stand h last space.old pages.old labels.old scratch.old.roots.exact.items scratch.old.roots.ambiguous.items stats.old [] }
     requires reserved { IsReservedFor scratch.old.room (length h.heap.pages) (length scratch.old.roots.ambiguous.items) (length h.heap.objects) }
-    requires rooms { AreRooms rooms.items (sizes_of h.heap (length scratch.old.roots.ambiguous.items)) }
-    requires six { vec_len rooms ≡ 6 }
+    requires rooms { AreRooms rooms.old.items (sizes_of h.heap (length scratch.old.roots.ambiguous.items)) }
+    requires six { vec_len rooms.old ≡ 6 }
     requires none { passes.old.items ≡ [] }
     requires capacity { 6 ≤ vec_capacity passes.old }
     requires queue { CanQueue h.heap finalizers.old scratch.old.room }

@@ -150,7 +150,7 @@ impl World {
             queued: queued as usize,
             freed: self.pages.len() as usize,
         };
-        let rooms = reserve_rooms(self.alloc, sizes)?;
+        let mut rooms = reserve_rooms(self.alloc, &mut scratch.rooms, sizes)?;
         scratch.room.reserve_queued(queued)?;
         let mut passes = Vec::with_capacity(self.alloc, MOST_PASSES)?;
         self.history.reserve(1)?;
@@ -163,9 +163,10 @@ impl World {
             scratch,
             &mut self.stats,
             last,
-            rooms,
+            &mut rooms,
             &mut passes,
         );
+        scratch.rooms = rooms;
         self.cells.rewrite(scratch.roots.exact.as_slice());
         self.history
             .push(Event::Collected {

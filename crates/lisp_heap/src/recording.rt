@@ -1,10 +1,10 @@
 //! The record of a pass, in names, and the labels after it.
 
-ghost use Rattle.std.specs.Prelude.{◌≡◌, ◌+◌, ◌/◌, ◌<◌, ◌≤◌, ◌++◌, length, map, All, IfOk, IfSome, vec_len, vec_capacity};
+ghost use Rattle.std.specs.Prelude.{◌≡◌, true, ◌+◌, ◌/◌, ◌<◌, ◌≤◌, ◌++◌, length, map, All, IfOk, IfSome, vec_len, vec_capacity};
 ghost use Rattle.copy_space.specs.declared.notes.Move.{Move};
 ghost use Rattle.pass_names.specs.Named.{AreNotes, Met};
 ghost use Rattle.lisp_heap.specs.AllPasses.{AreRooms};
-ghost use Rattle.lisp_heap.specs.Recording.{CanRelabel, HasRoom, HaveLabels, labelled_by, new_place, pin_by, placing_by, recorded, relabelled, sizes_noted};
+ghost use Rattle.lisp_heap.specs.Recording.{AreWithin, CanRelabel, HasRoom, HaveLabels, labelled_by, new_place, pin_by, placing_by, recorded, relabelled, sizes_noted};
 
 use copy_space::{Move, PassNotes};
 use heap_terms::{Memory, PassRecord, PinAt, Placing, Seq};
@@ -27,6 +27,22 @@ pub struct RecordSizes {
     pub queued: usize,
     /// Freed pages.
     pub freed: usize,
+}
+
+impl RecordSizes {
+    /// The same, and as much again.
+    fn doubled(self) -> RecordSizes
+        ensures { AreWithin self result }
+    {
+        RecordSizes {
+            moves: self.moves.saturating_mul(2),
+            pins: self.pins.saturating_mul(2),
+            culls: self.culls.saturating_mul(2),
+            breaks: self.breaks.saturating_mul(2),
+            queued: self.queued.saturating_mul(2),
+            freed: self.freed.saturating_mul(2),
+        }
+    }
 }
 
 /// Room for the lists of the record of a pass, which are empty so far.
@@ -52,19 +68,57 @@ impl RecordRoom {
             freed: Vec::with_capacity(alloc, sizes.freed)?,
         })
     }
+
+    /// Whether it is as `reserve` leaves it for lists of these sizes.
+    fn fits(&self, sizes: RecordSizes) -> bool
+        ensures { result ≡ true → HasRoom self.now sizes }
+    {
+        let is_empty = self.moves.is_empty()
+            && self.pins.is_empty()
+            && self.queued.is_empty()
+            && self.freed.is_empty();
+        is_empty
+            && sizes.moves <= self.moves.capacity()
+            && sizes.pins <= self.pins.capacity()
+            && sizes.queued <= self.queued.capacity()
+            && sizes.freed <= self.freed.capacity()
+            && self.weak.fits(sizes.culls, sizes.breaks)
+    }
 }
 
 /// How many passes a collection has at most.
 pub(crate) const MOST_PASSES: usize = 6;
 
-/// Rooms for the records of all passes of a collection, each for lists of these sizes.
-pub fn reserve_rooms(alloc: Global, sizes: RecordSizes) -> Result<Vec<RecordRoom>, Memory>
+/// Room for lists of these sizes: what an earlier collection left, if it is enough.
+fn room_for(
+    alloc: Global,
+    left: Option<RecordRoom>,
+    sizes: RecordSizes,
+) -> Result<RecordRoom, Memory>
+    ensures { IfOk result (λ room. HasRoom room sizes) }
+{
+    if let Some(room) = left {
+        if room.fits(sizes) {
+            return Ok(room);
+        }
+    }
+    // The heap grows, and then this is enough for later collections too.
+    RecordRoom::reserve(alloc, sizes.doubled())
+}
+
+/// Rooms for the records of all passes of a collection, each for lists of these sizes. It takes those
+/// that earlier collections left.
+pub fn reserve_rooms(
+    alloc: Global,
+    left: &mut Vec<RecordRoom>,
+    sizes: RecordSizes,
+) -> Result<Vec<RecordRoom>, Memory>
     ensures rooms { IfOk result (λ rooms. AreRooms rooms.items sizes) }
     ensures six { IfOk result (λ rooms. vec_len rooms ≡ 6) }
 {
     let mut rooms = Vec::with_capacity(alloc, MOST_PASSES)?;
     for n in 0..MOST_PASSES {
-        rooms.push_reserved(RecordRoom::reserve(alloc, sizes)?);
+        rooms.push_reserved(room_for(alloc, left.pop(), sizes)?);
     }
     Ok(rooms)
 }

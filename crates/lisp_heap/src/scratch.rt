@@ -6,6 +6,7 @@ ghost use Rattle.heap_terms.specs.declared.limits.TheConstants.{MOST_PAGES, MOST
 ghost use Rattle.heap_terms.specs.Valid.{IsValid};
 ghost use Rattle.collect_pass.specs.Pass.{IsReservedFor};
 
+use crate::recording::RecordRoom;
 use collect_pass::{PassRoom, Roots};
 use heap_terms::{Memory, Program};
 use std::alloc::Global;
@@ -32,6 +33,8 @@ pub struct Scratch {
     pub room: PassRoom,
     /// The roots of the pass that is made.
     pub roots: Roots,
+    /// Rooms for records of passes that the latest collection did not need.
+    pub rooms: Vec<RecordRoom>,
 }
 
 impl Scratch {
@@ -46,6 +49,10 @@ impl Scratch {
             exact: Vec::new(alloc),
             ambiguous: Vec::new(alloc),
         };
-        Ok(Scratch { room, roots })
+        Ok(Scratch {
+            room,
+            roots,
+            rooms: Vec::new(alloc),
+        })
     }
 }

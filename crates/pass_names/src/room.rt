@@ -1,6 +1,6 @@
 //! The culls and breaks of a pass in names, and room for them.
 
-ghost use Rattle.std.specs.Prelude.{◌≡◌, length, IfOk};
+ghost use Rattle.std.specs.Prelude.{◌≡◌, true, length, IfOk};
 ghost use Rattle.heap_terms.specs.Survival.{breaks_of, culls_of};
 ghost use Rattle.pass_names.specs.Named.{Met, AreNotes};
 ghost use Rattle.pass_names.specs.Room.{HasRoomFor};
@@ -42,6 +42,17 @@ impl NameRoom {
             culls: Vec::with_capacity(alloc, culls)?,
             breaks: Vec::with_capacity(alloc, breaks)?,
         })
+    }
+
+    /// Whether it is as `reserve` leaves it for so many culls and breaks.
+    pub fn fits(&self, culls: usize, breaks: usize) -> bool
+        ensures { result ≡ true → HasRoomFor self.now culls breaks }
+    {
+        let is_empty = self.places.is_empty() && self.culls.is_empty() && self.breaks.is_empty();
+        is_empty
+            && culls <= self.places.capacity()
+            && culls <= self.culls.capacity()
+            && breaks <= self.breaks.capacity()
     }
 
     /// What a pass culled and broke, from its notes and the labels before it. It takes no memory.
