@@ -151,10 +151,8 @@ fn turns(rt: &impl Abort, world: &mut World, parcel: &mut Parcel) -> Result<(), 
     Ok(())
 }
 
-#[test]
-fn a_script_of_one_cons(rt: HostRuntime) -> Result<(), Memory> {
-    let alloc = rt.alloc();
-    let (mut world, parcels) = World::new(alloc, one_cons(alloc)?)?;
+/// Compares what a new World of that script tells.
+fn assert_new(rt: &impl Abort, world: &World) {
     assert_eq!(rt;
         (
             world.threads(),
@@ -163,18 +161,45 @@ fn a_script_of_one_cons(rt: HostRuntime) -> Result<(), Memory> {
         ),
         (1, 2, 0)
     );
-    let mut parcel = only(&rt, parcels);
-    crosses_threads(&parcel);
-    assert!(rt; !parcel.has_built(Kind::Cons, 2, 0));
-    let ran = turns(&rt, &mut world, &mut parcel);
-    assert_eq!(rt; parcel.put_away(), 0);
-    ran?;
-    crosses_threads(&world);
+}
+
+/// Compares what the World tells after the script.
+fn assert_done(rt: &impl Abort, alloc: Global, world: &World) -> Result<(), Memory> {
+    crosses_threads(world);
     assert!(rt; 0 < world.threads());
     assert_eq!(rt; world.next(0), Next::Done);
     let expected = expected_history(alloc)?;
     assert!(rt; world.history() == expected.as_slice());
     Ok(())
+}
+
+/// Runs the script with the parcel of its thread.
+fn run_one_cons(rt: &impl Abort, world: &mut World, mut parcel: Parcel) -> Result<(), Memory> {
+    crosses_threads(&parcel);
+    assert!(rt; !parcel.has_built(Kind::Cons, 2, 0));
+    let ran = turns(rt, world, &mut parcel);
+    assert_eq!(rt; parcel.put_away(), 0);
+    ran
+}
+
+/// Compares a new World of that script, runs it to its end, and compares again.
+fn assert_one_cons(
+    rt: &impl Abort,
+    alloc: Global,
+    world: &mut World,
+    parcels: Vec<Parcel>,
+) -> Result<(), Memory> {
+    assert_new(rt, world);
+    run_one_cons(rt, world, only(rt, parcels))?;
+    assert_done(rt, alloc, world)
+}
+
+// The World is borrowed at once: the fewer steps a function takes that owns it, the less its proof costs.
+#[test]
+fn a_script_of_one_cons(rt: HostRuntime) -> Result<(), Memory> {
+    let alloc = rt.alloc();
+    let (mut world, parcels) = World::new(alloc, one_cons(alloc)?)?;
+    assert_one_cons(&rt, alloc, &mut world, parcels)
 }
 
 /// A thread that takes a pin off, pins a cell, takes the pin off, and asks for a collection; and one
@@ -221,21 +246,31 @@ fn refused(world: &World, i: usize) -> Option<Refusal> {
     }
 }
 
-#[test]
-fn pins_and_a_collection_that_is_due(rt: HostRuntime) -> Result<(), Memory> {
-    let alloc = rt.alloc();
-    let (mut world, mut parcels) = World::new(alloc, pinned_and_inhibited(alloc)?)?;
+/// Runs that script up to the collection, and compares.
+fn assert_pins(rt: &impl Abort, world: &mut World) -> Result<(), Memory> {
+    commands(rt, world, 1, 1)?;
+    commands(rt, world, 0, 4)?;
+    assert!(rt; 1 < world.threads());
+    assert!(rt; world.inhibits(1));
+    assert_eq!(rt; world.next(0), Next::Collect(0));
+    assert_eq!(rt; refused(world, 1), Some(Refusal::Nothing));
+    assert_eq!(rt; refused(world, 2), None);
+    assert_eq!(rt; refused(world, 3), None);
+    Ok(())
+}
+
+/// Puts parcels away in which there is no region.
+fn put_away_empty(rt: &impl Abort, mut parcels: Vec<Parcel>) {
     while let Some(parcel) = parcels.pop() {
         assert_eq!(rt; parcel.put_away(), 0);
     }
     parcels.destroy_empty();
-    commands(&rt, &mut world, 1, 1)?;
-    commands(&rt, &mut world, 0, 4)?;
-    assert!(rt; 1 < world.threads());
-    assert!(rt; world.inhibits(1));
-    assert_eq!(rt; world.next(0), Next::Collect(0));
-    assert_eq!(rt; refused(&world, 1), Some(Refusal::Nothing));
-    assert_eq!(rt; refused(&world, 2), None);
-    assert_eq!(rt; refused(&world, 3), None);
-    Ok(())
+}
+
+#[test]
+fn pins_and_a_collection_that_is_due(rt: HostRuntime) -> Result<(), Memory> {
+    let alloc = rt.alloc();
+    let (mut world, parcels) = World::new(alloc, pinned_and_inhibited(alloc)?)?;
+    put_away_empty(&rt, parcels);
+    assert_pins(&rt, &mut world)
 }
