@@ -2,6 +2,7 @@
 
 ghost use Rattle.std.specs.Prelude.{◌≡◌, ◌*◌, ◌+◌, ◌-◌, ◌≤◌, IfOk, OnOk};
 ghost use Rattle.heap_terms.specs.declared.limits.TheConstants.{MOST_PAGES};
+ghost use Rattle.copy_space.specs.Notes.{SameButQueued};
 ghost use Rattle.collect_pass.specs.Pass.{IsReservedFor};
 ghost use Rattle.collect_pass.specs.Room.{AreNotesFor};
 
@@ -58,12 +59,14 @@ impl PassRoom {
     }
 
     /// Makes room for the numbers of so many finalizers, before the passes of a collection. It is
-    /// refused only for want of memory; what the room is for else stays.
+    /// refused only for want of memory; what the room is for else stays, and so do the notes.
     pub fn reserve_queued(&mut self, most: u32) -> Result<(), Memory>
         ensures queued { OnOk result (most ≤ self.new.queued) }
         ensures pages { self.new.pages ≡ self.old.pages }
         ensures ambiguous { self.new.ambiguous ≡ self.old.ambiguous }
         ensures weak { self.new.weak ≡ self.old.weak }
+        ensures notes { SameButQueued self.old.notes self.new.notes }
+        ensures items { self.new.notes.queued.items ≡ self.old.notes.queued.items }
     {
         self.notes.queued.reserve(most as usize)?;
         Ok(())
