@@ -8,12 +8,13 @@ mod passes;
 mod places;
 
 use crate::machine::{Machine, Stepped};
-use crate::runs::run_schedule;
+use crate::runs::{Replay, run_schedule};
 use heap_terms::{
     Answer, Cell, Command, Event, Memory, PageType, Program, Refusal, ReplayLine, Seq, StepAnswer,
     WordLine, WordStep,
 };
 use std::alloc::Global;
+use std::process::Abort;
 
 /// Two threads without commands.
 fn two_idle_threads(alloc: Global) -> Result<Program, Memory>
@@ -44,10 +45,8 @@ fn went(thread: u32, step: WordStep) -> ReplayLine {
     ReplayLine::Word(stepped(thread, step))
 }
 
-#[test]
-fn threads_without_commands_end_in_turn(rt: HostRuntime) -> Result<(), Memory> {
-    let alloc = rt.alloc();
-    let replay = run_schedule(alloc, two_idle_threads(alloc)?)?;
+/// Compares the run of those threads.
+fn assert_idle(rt: &impl Abort, alloc: Global, replay: &Replay) -> Result<(), Memory> {
     let expected = vec![in alloc; Event::Ended { thread: 0 }, Event::Ended { thread: 1 }]?;
     assert!(rt; replay.world.history() == expected.as_slice());
     let lines = vec![in alloc;
@@ -64,6 +63,14 @@ fn threads_without_commands_end_in_turn(rt: HostRuntime) -> Result<(), Memory> {
     ]?;
     assert!(rt; replay.lines == Seq::from_vec(lines));
     Ok(())
+}
+
+// What holds a World is borrowed at once: the fewer steps a function takes that owns it, the less its proof costs.
+#[test]
+fn threads_without_commands_end_in_turn(rt: HostRuntime) -> Result<(), Memory> {
+    let alloc = rt.alloc();
+    let replay = run_schedule(alloc, two_idle_threads(alloc)?)?;
+    assert_idle(&rt, alloc, &replay)
 }
 
 /// Two threads that make a fixnum each, and a schedule in which the second has its turns first.
@@ -105,14 +112,19 @@ fn made(thread: u32, n: i64) -> Event {
     }
 }
 
+/// Compares the history of those threads.
+fn assert_second_first(rt: &impl Abort, alloc: Global, history: &[Event]) -> Result<(), Memory> {
+    let ends = (Event::Ended { thread: 1 }, Event::Ended { thread: 0 });
+    let expected = vec![in alloc; made(1, 2), made(0, 1), ends.0, ends.1]?;
+    assert!(rt; history == expected.as_slice());
+    Ok(())
+}
+
 #[test]
 fn the_schedule_decides_which_thread_goes_first(rt: HostRuntime) -> Result<(), Memory> {
     let alloc = rt.alloc();
     let replay = run_schedule(alloc, two_fixnums(alloc)?)?;
-    let ends = (Event::Ended { thread: 1 }, Event::Ended { thread: 0 });
-    let expected = vec![in alloc; made(1, 2), made(0, 1), ends.0, ends.1]?;
-    assert!(rt; replay.world.history() == expected.as_slice());
-    Ok(())
+    assert_second_first(&rt, alloc, replay.world.history())
 }
 
 /// One turn of thread 1.
@@ -123,24 +135,21 @@ fn second_steps(machine: &mut Machine) -> Result<Stepped, Memory>
     machine.step(1)
 }
 
-#[test]
-fn a_turn_is_one_row_of_the_table(rt: HostRuntime) -> Result<(), Memory> {
-    let alloc = rt.alloc();
-    let mut machine = Machine::new(alloc, two_fixnums(alloc)?)?;
+/// Compares the turns of thread 1.
+fn assert_rows(rt: &impl Abort, machine: &mut Machine)
+    requires { 1 < length (program_of machine.old).threads }
+{
     let turns = [
-        second_steps(&mut machine),
-        second_steps(&mut machine),
-        second_steps(&mut machine),
-        second_steps(&mut machine),
-        second_steps(&mut machine),
-        second_steps(&mut machine),
-        second_steps(&mut machine),
-        second_steps(&mut machine),
-        second_steps(&mut machine),
+        second_steps(machine),
+        second_steps(machine),
+        second_steps(machine),
+        second_steps(machine),
+        second_steps(machine),
+        second_steps(machine),
+        second_steps(machine),
+        second_steps(machine),
+        second_steps(machine),
     ];
-    let world = machine.into_world();
-    let expected = vec![in alloc; made(1, 2), Event::Ended { thread: 1 }]?;
-    assert!(rt; world.history() == expected.as_slice());
     assert!(rt;
         turns
             == [
@@ -155,7 +164,22 @@ fn a_turn_is_one_row_of_the_table(rt: HostRuntime) -> Result<(), Memory> {
                 Ok(Stepped::Ended),
             ]
     );
+}
+
+/// Compares the history of those turns.
+fn assert_second_alone(rt: &impl Abort, alloc: Global, history: &[Event]) -> Result<(), Memory> {
+    let expected = vec![in alloc; made(1, 2), Event::Ended { thread: 1 }]?;
+    assert!(rt; history == expected.as_slice());
     Ok(())
+}
+
+#[test]
+fn a_turn_is_one_row_of_the_table(rt: HostRuntime) -> Result<(), Memory> {
+    let alloc = rt.alloc();
+    let mut machine = Machine::new(alloc, two_fixnums(alloc)?)?;
+    assert_rows(&rt, &mut machine);
+    let world = machine.into_world();
+    assert_second_alone(&rt, alloc, world.history())
 }
 
 /// A thread whose reads of a field are refused: of a fixnum, and of a cons past its end.
@@ -190,10 +214,8 @@ fn refused_reads(alloc: Global) -> Result<Program, Memory>
     })
 }
 
-#[test]
-fn a_refused_read_goes_on(rt: HostRuntime) -> Result<(), Memory> {
-    let alloc = rt.alloc();
-    let replay = run_schedule(alloc, refused_reads(alloc)?)?;
+/// Compares the history of that thread.
+fn assert_refused(rt: &impl Abort, alloc: Global, history: &[Event]) -> Result<(), Memory> {
     let (cons, fixnum) = (Cell::Exact(0), Cell::Stack(0));
     let read = Cell::Stack(1);
     let expected = vec![in alloc;
@@ -232,6 +254,13 @@ fn a_refused_read_goes_on(rt: HostRuntime) -> Result<(), Memory> {
         },
         Event::Ended { thread: 0 },
     ]?;
-    assert!(rt; replay.world.history() == expected.as_slice());
+    assert!(rt; history == expected.as_slice());
     Ok(())
+}
+
+#[test]
+fn a_refused_read_goes_on(rt: HostRuntime) -> Result<(), Memory> {
+    let alloc = rt.alloc();
+    let replay = run_schedule(alloc, refused_reads(alloc)?)?;
+    assert_refused(&rt, alloc, replay.world.history())
 }

@@ -9,7 +9,7 @@ use crate::runs::run_history;
 use heap_terms::Cell::{Exact, Stack};
 use heap_terms::Command::{Collect, Get, NewClosure, NewCons, NewInstance, NewTable, NewWeak};
 use heap_terms::PageType::{Boxed, Cons, Unboxed};
-use heap_terms::{Command, Memory, PassRecord, Value, Weakness};
+use heap_terms::{Command, Event, Memory, PassRecord, Value, Weakness};
 use std::alloc::Global;
 use std::process::Abort;
 
@@ -201,17 +201,22 @@ fn assert_in_order(rt: &impl Abort, pass: &PassRecord) {
     }
 }
 
+/// Compares what the pass did with the list, and the end of the walk.
+fn assert_list(rt: &impl Abort, history: &[Event]) {
+    let pass = the_pass(history).expect(rt, "there was a pass");
+    assert_in_order(rt, pass);
+    assert_eq!(rt; (pass.moves.len(), pass.pins.len()), (10_000, 0));
+    assert_eq!(rt; (pass.freed.len(), pass.dead), (40, 0));
+    let last = history.iter().rev().nth(1).map(reply_of);
+    assert_eq!(rt; last, Some(Reply::Field(Value::Ref(0))));
+}
+
 /// The list fills 40 pages, the last of them in part, and there are 40 more.
 #[test]
 fn a_list_of_10_000_conses_moves_from_its_front(rt: HostRuntime) -> Result<(), Memory> {
     let alloc = rt.alloc();
     let program = program_of(&rt, alloc, 80, &long_list(alloc)?)?;
     let world = run_history(alloc, program)?;
-    let pass = the_pass(world.history()).expect(&rt, "there was a pass");
-    assert_in_order(&rt, pass);
-    assert_eq!(rt; (pass.moves.len(), pass.pins.len()), (10_000, 0));
-    assert_eq!(rt; (pass.freed.len(), pass.dead), (40, 0));
-    let last = world.history().iter().rev().nth(1).map(reply_of);
-    assert_eq!(rt; last, Some(Reply::Field(Value::Ref(0))));
+    assert_list(&rt, world.history());
     Ok(())
 }
