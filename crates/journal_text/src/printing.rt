@@ -12,7 +12,7 @@ mod room;
 mod steps;
 
 use answers::push_answer_line;
-use heap_terms::{Event, Memory, PageType};
+use heap_terms::{Event, Memory, PageType, PassRecord};
 use pages::push_type;
 use passes::push_passes;
 use room::{DONE_LINE, EVENT_LINE, OPENED_LINE};
@@ -28,10 +28,31 @@ const MEAN_LINE: usize = 32;
 pub fn print(alloc: Global, events: &[Event]) -> Result<Vec<u8>, Memory>
     ensures { IfOk result (λ bytes. bytes.items ≡ journal_text events.now) }
 {
-    let mut out = Text::with_capacity(alloc, events.len().saturating_mul(MEAN_LINE))?;
+    let mut out = Text::with_capacity(alloc, lines_of(events).saturating_mul(MEAN_LINE))?;
     push_events(&mut out, events)?;
     push_done(&mut out, events.len() as u64)?;
     Ok(out.into_bytes())
+}
+
+/// About how many lines events have: one each, and the moves and pins of collections. It is a guess too.
+fn lines_of(events: &[Event]) -> usize {
+    let mut lines = events.len();
+    for event in events {
+        if let Event::Collected { passes, .. } = event {
+            lines = lines.saturating_add(lines_of_passes(passes.as_slice()));
+        }
+    }
+    lines
+}
+
+/// About how many lines passes have.
+fn lines_of_passes(passes: &[PassRecord]) -> usize {
+    let mut lines: usize = 0;
+    for pass in passes {
+        let placed = pass.moves.len().saturating_add(pass.pins.len());
+        lines = lines.saturating_add(placed);
+    }
+    lines
 }
 
 /// Appends the last line: how many events there are.
