@@ -25,6 +25,8 @@ use Rattle.scavenge.specs.Scanning.{Scans}
 use Rattle.trace_laws.specs.Rooted.{Rooted, IsExactRoot, RootsStand}
 use Rattle.trace_laws.specs.Traced.{ArePinnedStarts, SettlesNoMore}
 use Rattle.collect_pass.specs.Evacuated.{AreEvacuated}
+use Rattle.collect_pass.specs.Settling.{Settles}
+use Rattle.collect_pass.proofs.SettlingLoop.{closed-fields}
 
 -- The end of settling: the pins are the pinned objects, the exact roots are settled and have their words after the pass, and
 -- nothing is settled that some closed set lacks. Pins and pass are those of the start.
@@ -39,7 +41,7 @@ pub record IsEndOf (h : Rooted) (w z : CopyState) (exact : List ℕ) : Type 0 wh
   pub room : z.room ≡ w.room
 
 module _ (h : Rooted) (w x y z : CopyState) (before exact ambiguous : List ℕ) (start : Midway h.heap w) (unmoved : w.moves ≡ []) (pinned : ArePinnedStarts h.heap w.pass.generation w.pins)
-    (roots : RootsStand h before ambiguous) (evacuated : AreEvacuated h w x exact) (older : Scans h.heap x y) (all : Scans h.heap y z) where
+    (roots : RootsStand h before ambiguous) (evacuated : AreEvacuated h w x exact) (older : Scans h.heap x y) (all : Settles h.heap y z) where
   abbrev a : NamedHeap
   a = h.heap
 
@@ -89,7 +91,7 @@ module _ (h : Rooted) (w x y z : CopyState) (before exact ambiguous : List ℕ) 
       go (inr (i, is)) = ap (is_live set) (sym is) ∙ closed.shared i
 
   settles-no-more : SettlesNoMore a z
-  settles-no-more set closed name settled = all.within set (closed_at y same_y) (λ n e. older.within set (closed_at x same_x) (λ m f. from_roots m f) n e) name settled
+  settles-no-more set closed name settled = all.within set (closed_at y same_y) (λ n e. older.reached set (closed-fields a x.pass.generation set (closed_at x same_x)) (λ m f. from_roots m f) n e) name settled
     where
       closed_w : IsClosed a w.pass.generation set
       closed_w = subst (λ (g : ℕ). IsClosed a g set) same_generation closed

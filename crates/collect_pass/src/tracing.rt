@@ -9,11 +9,10 @@ ghost use Rattle.copy_space.specs.State.{state};
 ghost use Rattle.finalizers.specs.Sweeping.{IsSwept};
 ghost use Rattle.scavenge.specs.Fields.{IsSameCopier};
 ghost use Rattle.scavenge.specs.Noting.{Notes};
-ghost use Rattle.scavenge.specs.Scanning.{Scans};
 ghost use Rattle.trace_laws.specs.Rooted.{Rooted};
 ghost use Rattle.trace_laws.specs.Traced.{IsTraced};
 ghost use Rattle.collect_pass.specs.Evacuated.{CanEvacuateRoots, AreEvacuated};
-ghost use Rattle.collect_pass.specs.Settling.{CanSettleAll, AreAllSettled};
+ghost use Rattle.collect_pass.specs.Settling.{CanSettleAll, AreAllSettled, Settles};
 ghost use Rattle.collect_pass.specs.Tracing.{AreTraceNotes, CanFinalize, CanTrace, end_state};
 
 use copy_space::{Copier, Marks, Pass, PassNotes};
@@ -107,7 +106,7 @@ fn trace_live(
 fn settle_all(copier: &mut Copier, weak: &mut PinSet, waiting: &mut Waiting)
     ghost a: { NamedHeap }
     requires { CanSettleAll a (state copier.old) weak.old }
-    ensures scans { Scans a (state copier.old) (state copier.new) }
+    ensures settles { Settles a (state copier.old) (state copier.new) }
     ensures settled { AreAllSettled a (state copier.new) weak.new.listed }
     ensures noting { Notes a (state copier.new) weak.old weak.new }
     ensures same { IsSameCopier copier.old copier.new }

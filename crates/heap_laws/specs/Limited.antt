@@ -1,5 +1,4 @@
--- Programs within the limits, whatever commands are built: what the laws of heaps and histories need of a program. So they
--- speak of collections and of all kinds of object before a script can have them.
+-- Programs within the limits: what the laws of heaps and histories need of a program.
 use Rattle.std.specs.Prelude.{◌≤◌, length, All}
 use Rattle.heap_terms.specs.declared.limits.TheConstants.{MOST_PAGES, MOST_THREADS}
 use Rattle.heap_terms.specs.declared.programs.Program.{Program}

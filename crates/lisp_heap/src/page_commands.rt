@@ -13,7 +13,7 @@ use heap_terms::{Answer, Memory, PageView, Refusal};
 use page_views::view_page;
 
 impl World {
-    /// `page`. It is the one command without an object whose answer takes memory.
+    /// `page`. Its answer, a list, takes memory.
     #[cold]
     #[inline(never)]
     pub(crate) fn viewed(&self, t: usize, p: u32) -> Result<Plan, Memory>

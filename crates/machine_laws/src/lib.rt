@@ -1,6 +1,6 @@
 //! Laws of the word machine: what every turn keeps, and that every run ends. Each is the contract
 //! of a function that does nothing: that it is accepted says that the law holds, of every program
-//! and every order of turns. They speak of collections too, before a script can ask for one.
+//! and every order of turns. They speak of collections too.
 #![tactic(auto)]
 
 ghost use Rattle.machine_laws.specs.Examples.{PhaseTable};

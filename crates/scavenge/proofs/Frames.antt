@@ -2,9 +2,7 @@
 use Rattle.std.proofs.Common.{◌≡◌, ℕ, ◌+◌, ◌-◌, ◌<◌, ◌≤◌, length, inl, inr, refl, sym, ◌∙◌, ap, subst, arith}
 use Rattle.std.proofs.lemmas.Bool.{cases_lt}
 use Rattle.heap_terms.specs.Heap.{NamedHeap}
-use Rattle.heap_terms.specs.Live.{IsClosed}
 use Rattle.copy_space.specs.declared.copier.Copier.{Copier}
-use Rattle.copy_space.specs.declared.notes.Pass.{Pass}
 use Rattle.copy_space.specs.declared.notes.PassNotes.{PassNotes}
 use Rattle.copy_space.specs.Frames.{Grows}
 use Rattle.copy_space.specs.Midway.{Midway}
@@ -16,15 +14,13 @@ use Rattle.scavenge.specs.Fields.{IsFieldAt, CanScanFields, AreNew, IsObjectAt, 
 use Rattle.scavenge.specs.Scanning.{Scans}
 
 pub scans-same : (a : NamedHeap) (s : CopyState) → Midway a s → Scans a s s
-scans-same a s h = record { midway = h; follows = Follows-same a s; within = λ set closed has name settled. has name settled }
+scans-same a s h = record { midway = h; follows = Follows-same a s; reached = λ set fields has name settled. has name settled }
 
 pub scans-on : (a : NamedHeap) (s t u : CopyState) → Scans a s t → Scans a t u → Scans a s u
 scans-on a s t u h k = record {
   midway = k.midway;
   follows = Follows-on a s t u h.follows k.follows;
-  within = λ set closed has name settled.
-      (let closed_t : IsClosed a t.pass.generation set = subst (λ (p : Pass). IsClosed a p.generation set) (sym h.follows.grows.pass) closed in
-      k.within set closed_t (h.within set closed has) name settled);
+  reached = λ set fields has name settled. k.reached set fields (h.reached set fields has) name settled;
 }
 
 -- words are as many as before

@@ -18,9 +18,9 @@ use Rattle.copy_space.proofs.FrameLaws.{Follows-from_Goes}
 use Rattle.copy_space.proofs.Rewriting.{written, midway-written, follows-written}
 use Rattle.copy_space.proofs.Shapes.{slot-below}
 use Rattle.scavenge.specs.Fields.{IsFieldAt, CanScanFields, AreNew}
-use Rattle.scavenge.specs.Scanning.{Scans, SettlesWithin}
+use Rattle.scavenge.specs.Scanning.{Scans, IsReachedFrom}
 use Rattle.scavenge.proofs.Frames.{scans-on}
-use Rattle.scavenge.proofs.Shapes.{field_kept, field_living}
+use Rattle.scavenge.proofs.Shapes.{field_living}
 
 living-or : (objects : List (Option Object)) (v : Value) → IsLiving objects v → IsLivingOrUnbound objects v
 living-or objects (Fix n) h = h
@@ -55,17 +55,16 @@ module _ (a : NamedHeap) (s t : CopyState) (index word now : ℕ) (can : CanScan
   word_at : IsWordOf a s at.v word
   word_at = subst (λ (w : ℕ). IsWordOf a s at.v w) (ap (λ (i : ℕ). slice_index s.words i) at.here ∙ sym is) (field-word a s can.midway at.name at.o at.there at.i at.v at.field)
 
-  -- what is newly settled is the field's value, which the object keeps
-  within : SettlesWithin a s t
-  within = λ set closed has name settled.
+  -- what is newly settled is the field's value
+  reached : IsReachedFrom a s t
+  reached = λ set fields has name settled.
       (elim ((e.each at.v word_at).only name settled) [
         | inl before ↦ has name before
-        | inr same ↦ (let kept = field_kept set at.o.contents at.i at.v at.field (closed.members at.name at.o at.there (has at.name at.settled)) in
-            subst (λ (v : Value). is_live set v ≡ true) same kept)
+        | inr same ↦ subst (λ (v : Value). is_live set v ≡ true) same (fields at.name at.o at.there (has at.name at.settled) at.i at.v at.field)
       ])
 
   pub scans-evacuated : Scans a s t
-  scans-evacuated = record { midway = e.midway; follows = Follows-from_Goes a s t can.midway e.goes; within = within }
+  scans-evacuated = record { midway = e.midway; follows = Follows-from_Goes a s t can.midway e.goes; reached = reached }
 
   -- each field at the index has the answer for its word
   answer : (name : ℕ) (o : Object) → object_at a.objects name ≡ Some o → (i : ℕ) (v : Value) → slot_at o.contents i ≡ Some (Val v) → new_of s.moves o.place + i ≡ index →
@@ -90,7 +89,7 @@ module _ (a : NamedHeap) (s t : CopyState) (index word now : ℕ) (can : CanScan
   scans_write = subst (λ (j : ℕ). Scans a t (written t j now)) place_then (record {
     midway = midway-written a t e.midway at.name at.o at.there at.i at.v at.field now (answer at.name at.o at.there at.i at.v at.field at.here);
     follows = follows-written a t e.midway at.name at.o at.there at.i at.v at.field now (answer at.name at.o at.there at.i at.v at.field at.here);
-    within = λ set closed has name settled. has name settled;
+    reached = λ set fields has name settled. has name settled;
   })
 
   pub scans-written : Scans a s (written t index now)

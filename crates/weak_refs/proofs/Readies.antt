@@ -6,8 +6,7 @@ use Rattle.heap_terms.specs.declared.cells.Value.TheVariants.{Fix, Nil, Unbound,
 use Rattle.heap_terms.specs.declared.kinds.Weakness.{Weakness}
 use Rattle.heap_terms.specs.declared.kinds.Weakness.TheVariants as weaknesses
 use Rattle.heap_terms.specs.Heap.{NamedHeap}
-use Rattle.heap_terms.specs.Live.{is_live, IsClosed, KeepsSides}
-use Rattle.copy_space.specs.declared.notes.Pass.{Pass}
+use Rattle.heap_terms.specs.Live.{is_live, KeepsSides}
 use Rattle.copy_space.specs.Copying.{CanLookUp, Evacuates}
 use Rattle.copy_space.specs.Frames.{Grows}
 use Rattle.copy_space.specs.Midway.{Midway}
@@ -19,30 +18,24 @@ use Rattle.scavenge.proofs.NotedStarts.{weak-later}
 use Rattle.weak_refs.specs.Readying.{CanReady, Readies, HasSameMoves, IsHeld, IsHeldWith, AreHeldBy, CanSettleSide, CanFollow, CanReadyPair}
 
 pub readies-same : (a : NamedHeap) (s : CopyState) → Midway a s → Readies a s s
-readies-same a s h = record { midway = h; goes = Goes-same a s; within = λ set closed has name settled. has name settled }
-
-closed-before : (a : NamedHeap) (s t : CopyState) → Grows a s t → (set : ℕ → Bool) → IsClosed a t.pass.generation set → IsClosed a s.pass.generation set
-closed-before a s t g set closed = subst (λ (p : Pass). IsClosed a p.generation set) g.pass closed
-
-closed-after : (a : NamedHeap) (s t : CopyState) → Grows a s t → (set : ℕ → Bool) → IsClosed a s.pass.generation set → IsClosed a t.pass.generation set
-closed-after a s t g set closed = subst (λ (p : Pass). IsClosed a p.generation set) (sym g.pass) closed
+readies-same a s h = record { midway = h; goes = Goes-same a s; kept = λ set pairs has name settled. has name settled }
 
 pub readies-on : (a : NamedHeap) (s t u : CopyState) → Readies a s t → Readies a t u → Readies a s u
 readies-on a s t u h k = record {
   midway = k.midway;
   goes = Goes-on a s t u h.goes k.goes;
-  within = λ set closed has name settled. k.within set (closed-after a s t h.goes.grows set closed) (h.within set closed has) name settled;
+  kept = λ set pairs has name settled. k.kept set pairs (h.kept set pairs has) name settled;
 }
 
 -- what is held stays held
 pub held-by-stays : (a : NamedHeap) (s t : CopyState) → Readies a s t → (w : Weakness) (u v : Value) → AreHeldBy a s w u v → AreHeldBy a t w u v
-held-by-stays a s t h w u v held = λ set closed has. held set (closed-before a s t h.goes.grows set closed) (λ name settled. has name (settled-stays a s t h.goes.grows name settled))
+held-by-stays a s t h w u v held = λ set pairs has. held set pairs (λ name settled. has name (settled-stays a s t h.goes.grows name settled))
 
 pub held-with-stays : (a : NamedHeap) (s t : CopyState) → Readies a s t → (u v : Value) → IsHeldWith a s u v → IsHeldWith a t u v
-held-with-stays a s t h u v held = λ set closed has. held set (closed-before a s t h.goes.grows set closed) (λ name settled. has name (settled-stays a s t h.goes.grows name settled))
+held-with-stays a s t h u v held = λ set pairs has. held set pairs (λ name settled. has name (settled-stays a s t h.goes.grows name settled))
 
 pub held-stays : (a : NamedHeap) (s t : CopyState) → Readies a s t → (v : Value) → IsHeld a s v → IsHeld a t v
-held-stays a s t h v held = λ set closed has. held set (closed-before a s t h.goes.grows set closed) (λ name settled. has name (settled-stays a s t h.goes.grows name settled))
+held-stays a s t h v held = λ set pairs has. held set pairs (λ name settled. has name (settled-stays a s t h.goes.grows name settled))
 
 -- where no move was added over two steps, none was over each
 grows-longer : (a : NamedHeap) (s t : CopyState) → Grows a s t → length s.moves ≤ length t.moves
@@ -73,9 +66,9 @@ pub side-readies : (a : NamedHeap) (s t : CopyState) (side result : ℕ) → Can
 side-readies a s t side result can e = record {
   midway = e.midway;
   goes = e.goes;
-  within = λ set closed has name settled. (elim ((e.each can.v can.is_word).only name settled) [
+  kept = λ set pairs has name settled. (elim ((e.each can.v can.is_word).only name settled) [
     | inl before ↦ has name before
-    | inr same ↦ subst (λ (v : Value). is_live set v ≡ true) same (can.held set closed has)
+    | inr same ↦ subst (λ (v : Value). is_live set v ≡ true) same (can.held set pairs has)
   ]);
 }
 
@@ -85,7 +78,7 @@ side-follows a s other side can live = record {
   midway = can.midway;
   v = can.v;
   is_word = can.side_is;
-  held = λ set closed has. can.held set closed has (live-within a s set has can.u live);
+  held = λ set pairs has. can.held set pairs has (live-within a s set has can.u live);
 }
 
 -- the sides of a pair
@@ -94,24 +87,24 @@ module _ (a : NamedHeap) (s : CopyState) (w : Weakness) (key value : ℕ) (can :
   held_as known is = subst (λ (x : Weakness). AreHeldBy a s x can.u can.v) is can.held
 
   pub strong-key : w ≡ weaknesses.Strong → CanSettleSide a s key
-  strong-key is = record { midway = can.midway; v = can.u; is_word = can.key_is; held = λ set closed has. (held_as weaknesses.Strong is set closed has).0 }
+  strong-key is = record { midway = can.midway; v = can.u; is_word = can.key_is; held = λ set pairs has. (held_as weaknesses.Strong is set pairs has).0 }
 
   pub strong-value : w ≡ weaknesses.Strong → (t : CopyState) → Readies a s t → CanSettleSide a t value
   strong-value is t h = record {
     midway = h.midway;
     v = can.v;
     is_word = word-of-stays a s t h.goes.grows can.v value can.value_is;
-    held = held-stays a s t h can.v (λ set closed has. (held_as weaknesses.Strong is set closed has).1);
+    held = held-stays a s t h can.v (λ set pairs has. (held_as weaknesses.Strong is set pairs has).1);
   }
 
   pub value-follows : w ≡ weaknesses.Key → CanFollow a s key value
-  value-follows is = record { midway = can.midway; u = can.u; v = can.v; other_is = can.key_is; side_is = can.value_is; held = λ set closed has. held_as weaknesses.Key is set closed has }
+  value-follows is = record { midway = can.midway; u = can.u; v = can.v; other_is = can.key_is; side_is = can.value_is; held = λ set pairs has. held_as weaknesses.Key is set pairs has }
 
   pub key-follows : w ≡ weaknesses.Value → CanFollow a s value key
-  key-follows is = record { midway = can.midway; u = can.v; v = can.u; other_is = can.value_is; side_is = can.key_is; held = λ set closed has. held_as weaknesses.Value is set closed has }
+  key-follows is = record { midway = can.midway; u = can.v; v = can.u; other_is = can.value_is; side_is = can.key_is; held = λ set pairs has. held_as weaknesses.Value is set pairs has }
 
   pub or-first : w ≡ weaknesses.KeyOrValue → CanFollow a s key value
-  or-first is = record { midway = can.midway; u = can.u; v = can.v; other_is = can.key_is; side_is = can.value_is; held = λ set closed has. (held_as weaknesses.KeyOrValue is set closed has).0 }
+  or-first is = record { midway = can.midway; u = can.u; v = can.v; other_is = can.key_is; side_is = can.value_is; held = λ set pairs has. (held_as weaknesses.KeyOrValue is set pairs has).0 }
 
   pub or-second : w ≡ weaknesses.KeyOrValue → (t : CopyState) → Readies a s t → CanFollow a t value key
   or-second is t h = record {
@@ -120,7 +113,7 @@ module _ (a : NamedHeap) (s : CopyState) (w : Weakness) (key value : ℕ) (can :
     v = can.u;
     other_is = word-of-stays a s t h.goes.grows can.v value can.value_is;
     side_is = word-of-stays a s t h.goes.grows can.u key can.key_is;
-    held = held-with-stays a s t h can.v can.u (λ set closed has. (held_as weaknesses.KeyOrValue is set closed has).1);
+    held = held-with-stays a s t h can.v can.u (λ set pairs has. (held_as weaknesses.KeyOrValue is set pairs has).1);
   }
 
 -- what is ready by a weakness that is known

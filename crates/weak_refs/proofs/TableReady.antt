@@ -69,8 +69,8 @@ module _ (a : NamedHeap) (s : CopyState) (start : ℕ) (m : Midway a s) (q : IsT
       v = (pair_at q.pairs k).1;
       key_is = key-then key key_is;
       value_is = value-then value value_is;
-      held = λ set closed has. subst (λ (x : Weakness). KeepsSides x (is_live set (pair_at q.pairs k).0) (is_live set (pair_at q.pairs k).1)) (sym w_is)
-          (subst (λ (c : Contents). Keeps set c) q.contents (closed.members q.name q.o q.there (has q.name (settled-stays a s r h.goes.grows q.name q.settled))) k);
+      held = λ set pairs has. subst (λ (x : Weakness). KeepsSides x (is_live set (pair_at q.pairs k).0) (is_live set (pair_at q.pairs k).1)) (sym w_is)
+          (pairs q.name q.o q.there (has q.name (settled-stays a s r h.goes.grows q.name q.settled)) q.w q.b q.pairs q.contents k);
     }
 
   -- all pairs have what the weakness keeps

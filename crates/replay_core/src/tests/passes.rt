@@ -207,6 +207,11 @@ fn assert_left(rt: &impl Abort, history: &[Event], case: Case) {
     assert_pins(rt, pass, case.pins);
     assert_eq!(rt; pass.freed.as_slice(), case.freed);
     assert_eq!(rt; pass.dead, case.dead);
+    assert_eq!(rt;
+        pass.kept as usize,
+        case.moves.len().saturating_add(case.pins.len())
+    );
+    assert_eq!(rt; (pass.generation, pass.target), (0, 0));
     assert_replies(rt, history, case.then);
 }
 

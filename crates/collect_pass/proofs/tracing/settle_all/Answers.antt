@@ -1,7 +1,7 @@
 -- One round more, and the last one.
 use Rattle.copy_space.specs.State.{state}
 use Rattle.scavenge.proofs.Frames.{same-on}
-use Rattle.collect_pass.proofs.SettlingLoop.{first-round, last-noting, last-scans, last-settled, next-round, round-can, round-ready}
+use Rattle.collect_pass.proofs.SettlingLoop.{first-round, last-noting, last-settles, last-settled, next-round, round-can, round-ready}
 use Rattle.collect_pass.proofs.tracing.settle_all.Goals as goal
 
 pub loop-done-init : goal.loop-done-init
@@ -33,9 +33,9 @@ loop-done-preserved g c =
           (record { notes = e.notes; same_space = e.same_space; same_pages = e.same_pages; same_marks = e.same_marks; same_notes = e.same_notes });
     }
 
-pub returns-clause-scans : goal.returns-clause-scans
-returns-clause-scans g c =
-    last-scans g.a (state c.args.copier.now) (state c.loop-done.copier) c.args.weak.now c.loop-done.weak c.loop-done.done c.loop-done.invariant.round
+pub returns-clause-settles : goal.returns-clause-settles
+returns-clause-settles g c =
+    last-settles g.a (state c.args.copier.now) (state c.loop-done.copier) c.args.weak.now c.loop-done.weak c.loop-done.done c.loop-done.invariant.round
     (state c.ready_entries.new.copier) c.ready_entries.ensures.readies (c.ready_entries.ensures.stayed c.loop-done-test.false) (c.ready_entries.ensures.ready c.loop-done-test.false)
 
 pub returns-clause-settled : goal.returns-clause-settled

@@ -4,12 +4,13 @@ use Rattle.copy_space.specs.declared.notes.Pass.{Pass}
 use Rattle.copy_space.specs.declared.notes.PassNotes.{PassNotes}
 use Rattle.copy_space.specs.Notes.{SameButMoves}
 use Rattle.copy_space.specs.State.{CopyState, state}
-use Rattle.scavenge.proofs.Frames.{notes-on, notes-same, scans-on}
+use Rattle.scavenge.proofs.Frames.{notes-on, notes-same}
 use Rattle.finalizers.specs.Sweeping.{IsSwept}
 use Rattle.finalizers.proofs.Standing.{stand-words}
 use Rattle.trace_laws.specs.Traced.{ArePinnedStarts, IsTraced}
 use Rattle.collect_pass.proofs.EndStates.{swept-end, told-end, traced-end}
 use Rattle.collect_pass.proofs.Finished.{IsListed, can-break, can-cull, end-same, trace-notes, traced, traced-pass, traced-pins}
+use Rattle.collect_pass.proofs.SettlingLoop.{scans-settle, settles-on}
 use Rattle.collect_pass.proofs.TracedNow.{IsEndOf, all-settled}
 use Rattle.collect_pass.proofs.tracing.trace_live.Goals as goal
 
@@ -21,7 +22,7 @@ cull-requires g c =
     let empty = ap length (ap (λ v. v.items) culls ∙ c.requires.0.no_culls) in
     let room = ap vec_capacity culls in
     let enough = c.requires.0.culls_room in
-    can-cull g.h.heap (state c.settle_all.new.copier) c.settle_all.new.weak (record { midway = e.scans.midway; all = e.settled; note = e.noting.can }) now (omega (arith, empty, now.culls.ok.0)) (omega arith)
+    can-cull g.h.heap (state c.settle_all.new.copier) c.settle_all.new.weak (record { midway = e.settles.midway; all = e.settled; note = e.noting.can }) now (omega (arith, empty, now.culls.ok.0)) (omega arith)
 
 pub break_dead-requires : goal.break_dead-requires
 break_dead-requires g c =
@@ -32,7 +33,7 @@ break_dead-requires g c =
     let empty = ap length (ap (λ v. v.items) breaks ∙ c.requires.0.no_breaks) in
     let room = ap vec_capacity breaks in
     let enough = c.requires.0.breaks_room in
-    can-break g.h.heap (state c.settle_all.new.copier) c.settle_all.new.weak (record { midway = e.scans.midway; all = e.settled; note = e.noting.can }) (state c.cull.new.copier) c.cull.ensures.left now
+    can-break g.h.heap (state c.settle_all.new.copier) c.settle_all.new.weak (record { midway = e.settles.midway; all = e.settled; note = e.noting.can }) (state c.cull.new.copier) c.cull.ensures.left now
     (omega (arith, empty, now.breaks.ok.0)) (omega arith)
 
 pub sweep-requires : goal.sweep-requires
@@ -63,8 +64,8 @@ returns-clause-traced g c =
     subst (λ (pass : Pass). ArePinnedStarts g.h.heap pass.generation c.new-copier.result.pins.now.listed) (sym pass_is)
     (subst (λ (pins : List ℕ). ArePinnedStarts g.h.heap c.args.pass.generation pins) (sym pins_are) c.requires.0.pinned) in
     let end : IsEndOf g.h w z c.evacuate_roots.new.exact = all-settled g.h w (state c.evacuate_roots.new.copier) (state c.scavenge_older.new.copier) z c.args.exact.now c.evacuate_roots.new.exact
-    c.requires.0.ambiguous c.new-copier.ensures.midway (ap (λ (s : CopyState). s.moves) starts) pinned c.requires.0.roots c.evacuate_roots.ensures.roots c.scavenge_older.ensures.scans e.scans in
-    let listed : IsListed g.h.heap z c.settle_all.new.weak = record { midway = e.scans.midway; all = e.settled; note = e.noting.can } in
+    c.requires.0.ambiguous c.new-copier.ensures.midway (ap (λ (s : CopyState). s.moves) starts) pinned c.requires.0.roots c.evacuate_roots.ensures.roots c.scavenge_older.ensures.scans e.settles in
+    let listed : IsListed g.h.heap z c.settle_all.new.weak = record { midway = e.settles.midway; all = e.settled; note = e.noting.can } in
     let t = state c.cull.new.copier in
     let u = state c.break_dead.new.copier in
     let swept = c.sweep.ensures.same in
@@ -83,9 +84,9 @@ returns-clause-notes g c =
     let z = state c.settle_all.new.copier in
     let t = state c.cull.new.copier in
     let u = state c.break_dead.new.copier in
-    let listed : IsListed g.h.heap z c.settle_all.new.weak = record { midway = e.scans.midway; all = e.settled; note = e.noting.can } in
+    let listed : IsListed g.h.heap z c.settle_all.new.weak = record { midway = e.settles.midway; all = e.settled; note = e.noting.can } in
     let same : u ≡ record z { words = u.words } = end-same g.h.heap z c.settle_all.new.weak listed t c.cull.ensures.left u c.break_dead.ensures.left in
-    let grown = scans-on g.h.heap (state c.evacuate_roots.new.copier) (state c.scavenge_older.new.copier) z c.scavenge_older.ensures.scans e.scans in
+    let grown = settles-on g.h.heap (state c.evacuate_roots.new.copier) (state c.scavenge_older.new.copier) z (scans-settle g.h.heap (state c.evacuate_roots.new.copier) (state c.scavenge_older.new.copier) c.scavenge_older.ensures.scans) e.settles in
     let pass_z : z.pass ≡ w.pass = grown.follows.grows.pass ∙ c.evacuate_roots.ensures.roots.goes.grows.pass in
     let room_z : z.room ≡ w.room = grown.follows.grows.room ∙ c.evacuate_roots.ensures.roots.goes.grows.room in
     let pass_w : w.pass ≡ c.args.pass = ap (λ (s : CopyState). s.pass) starts in
@@ -109,9 +110,9 @@ returns-clause-finalizers g c =
     let w = state c.new-copier.result in
     let z = state c.settle_all.new.copier in
     let u = state c.break_dead.new.copier in
-    let listed : IsListed g.h.heap z c.settle_all.new.weak = record { midway = e.scans.midway; all = e.settled; note = e.noting.can } in
+    let listed : IsListed g.h.heap z c.settle_all.new.weak = record { midway = e.settles.midway; all = e.settled; note = e.noting.can } in
     let same : u ≡ record z { words = u.words } = end-same g.h.heap z c.settle_all.new.weak listed (state c.cull.new.copier) c.cull.ensures.left u c.break_dead.ensures.left in
-    let grown = scans-on g.h.heap (state c.evacuate_roots.new.copier) (state c.scavenge_older.new.copier) z c.scavenge_older.ensures.scans e.scans in
+    let grown = settles-on g.h.heap (state c.evacuate_roots.new.copier) (state c.scavenge_older.new.copier) z (scans-settle g.h.heap (state c.evacuate_roots.new.copier) (state c.scavenge_older.new.copier) c.scavenge_older.ensures.scans) e.settles in
     let pass_w : w.pass ≡ c.args.pass = ap (λ (s : CopyState). s.pass) starts in
     let pass_u : u.pass ≡ c.args.pass = ap (λ (s : CopyState). s.pass) same ∙ grown.follows.grows.pass ∙ c.evacuate_roots.ensures.roots.goes.grows.pass ∙ pass_w in
     let swept = c.sweep.ensures.swept g.h.heap.finalizers (stand-words g.h.heap u c.args.finalizers.now c.break_dead.ensures.left.places c.requires.1.stand) in
