@@ -8,6 +8,7 @@ pub mod Sums
 pub mod Scheduled
 pub mod Script
 pub mod Fitting
+pub mod Allowed
 pub mod Validity
 pub mod Spelled
 pub mod Numbered

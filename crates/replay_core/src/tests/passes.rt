@@ -159,6 +159,15 @@ fn assert_moves(rt: &impl Abort, pass: &PassRecord, moves: &[(u32, Option<u32>)]
     }
 }
 
+/// Compares the counts of a pass, and the generations that it names.
+fn assert_counts(rt: &impl Abort, pass: &PassRecord, case: Case) {
+    assert_eq!(rt; pass.dead, case.dead);
+    let kept = case.moves.len().saturating_add(case.pins.len());
+    assert_eq!(rt; pass.kept as usize, kept);
+    assert_eq!(rt; pass.generation, 0);
+    assert_eq!(rt; pass.target, 0);
+}
+
 /// Compares what was pinned.
 fn assert_pins(rt: &impl Abort, pass: &PassRecord, pins: &[u32]) {
     assert_eq!(rt; pass.pins.len(), pins.len());
@@ -206,12 +215,7 @@ fn assert_left(rt: &impl Abort, history: &[Event], case: Case) {
     assert_moves(rt, pass, case.moves);
     assert_pins(rt, pass, case.pins);
     assert_eq!(rt; pass.freed.as_slice(), case.freed);
-    assert_eq!(rt; pass.dead, case.dead);
-    assert_eq!(rt;
-        pass.kept as usize,
-        case.moves.len().saturating_add(case.pins.len())
-    );
-    assert_eq!(rt; (pass.generation, pass.target), (0, 0));
+    assert_counts(rt, pass, case);
     assert_replies(rt, history, case.then);
 }
 
