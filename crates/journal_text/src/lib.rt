@@ -6,8 +6,6 @@ mod faults;
 mod laws;
 mod parsing;
 mod printing;
-#[cfg(test)]
-mod tests;
 
 pub use faults::JournalFault;
 pub use laws::{lines_are_decided, texts_are_distinct};

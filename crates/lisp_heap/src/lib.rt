@@ -43,5 +43,3 @@ pub use heap_terms::Next;
 pub use parcels::{Parcel, put_away_all};
 pub use world::World;
 
-#[cfg(test)]
-mod tests;

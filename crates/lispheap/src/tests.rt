@@ -62,19 +62,40 @@ const WHOLE: Streams<'static> = Streams {
     out_fails: &[],
 };
 
-/// Calls the program on words and an input.
-fn outcome_of(alloc: Global, words: &[&str], input: &[u8], streams: Streams) -> Result<Ended, Fail>
-    requires { 1 ≤ streams.most }
-{
+/// The words of a call.
+fn spoken_words(alloc: Global, words: &[&str]) -> Result<Vec<String>, Fail> {
     let mut spoken = Vec::new(alloc);
     for word in words {
         spoken.push(String::from_str(alloc, word)?)?;
     }
-    let source_fails = Vec::from_slice(alloc, streams.source_fails)?;
-    let out_fails = Vec::from_slice(alloc, streams.out_fails)?;
-    let mut source = MemorySource::new(Vec::from_slice(alloc, input)?, streams.most, source_fails);
-    let mut out = MemorySink::new(alloc, streams.most, 1_000_000, out_fails)?;
-    let mut err = MemorySink::new(alloc, 1000, 1000, Vec::new(alloc))?;
+    Ok(spoken)
+}
+
+/// The source of a call.
+fn source_of(alloc: Global, input: &[u8], streams: Streams) -> Result<MemorySource, Fail>
+    requires { 1 ≤ streams.most }
+{
+    let fails = Vec::from_slice(alloc, streams.source_fails)?;
+    Ok(MemorySource::new(Vec::from_slice(alloc, input)?, streams.most, fails))
+}
+
+/// The output of a call, and what takes what it says.
+fn sinks_of(alloc: Global, streams: Streams) -> Result<(MemorySink, MemorySink), Fail>
+    requires { 1 ≤ streams.most }
+{
+    let fails = Vec::from_slice(alloc, streams.out_fails)?;
+    let out = MemorySink::new(alloc, streams.most, 1_000_000, fails)?;
+    let err = MemorySink::new(alloc, 1000, 1000, Vec::new(alloc))?;
+    Ok((out, err))
+}
+
+/// Calls the program on words and an input.
+fn outcome_of(alloc: Global, words: &[&str], input: &[u8], streams: Streams) -> Result<Ended, Fail>
+    requires { 1 ≤ streams.most }
+{
+    let spoken = spoken_words(alloc, words)?;
+    let mut source = source_of(alloc, input, streams)?;
+    let (mut out, mut err) = sinks_of(alloc, streams)?;
     let status = lispheap_still(alloc, &spoken, &mut source, &mut out, &mut err);
     Ok(Ended { status, out, err })
 }
@@ -186,30 +207,35 @@ fn word_steps_stand_between_the_events(rt: HostRuntime) -> Result<(), Fail> {
     Ok(())
 }
 
-#[test]
-fn the_257th_cons_of_a_page_is_refused(rt: HostRuntime) -> Result<(), Fail> {
-    let alloc = rt.alloc();
-    let mut input = String::from_str(alloc, "lispheap 1\nheap 1\nthread\n")?;
-    let mut journal = String::from_str(alloc, "0 open cons 0 1\n")?;
+/// Appends the commands that fill a page with conses, and their lines.
+fn fill_a_page(alloc: Global, input: &mut String, journal: &mut String) -> Result<(), Fail> {
     for k in 0..256u32 {
         input.push_str("cons b0 b1 b1\n")?;
         let at = k * 2;
         journal.push_str(format!(in alloc; "0 cons b0 b1 b1 -> #{k} @{at}\n")?.as_str())?;
     }
+    Ok(())
+}
+
+#[test]
+fn the_257th_cons_of_a_page_is_refused(rt: HostRuntime) -> Result<(), Fail> {
+    let alloc = rt.alloc();
+    let mut input = String::from_str(alloc, "lispheap 1\nheap 1\nthread\n")?;
+    let mut journal = String::from_str(alloc, "0 open cons 0 1\n")?;
+    fill_a_page(alloc, &mut input, &mut journal)?;
     input.push_str("cons b0 b1 b1\nend\n")?;
     journal.push_str("0 cons b0 b1 b1 -> !exhausted\n0 end\ndone 259\n")?;
     assert_replay(&rt, alloc, input.as_bytes(), 0, journal.as_str(), "")
 }
 
-/// A script of one thread that makes objects of a kind, from the largest small one to the largest
-/// of all, on pages that they just fill, and reads the last of them; and its journal.
-fn of_every_size(
+/// Appends the commands that make objects of a kind, from the largest small one to the largest of all, on pages
+/// that they just fill, and their lines.
+fn add_sizes(
     alloc: Global,
     (kind, ty, seed): (&str, &str, &str),
-    reads: &[(&str, &str); 4],
-) -> Result<(String, String), Fail> {
-    let mut input = String::from_str(alloc, "lispheap 1\nheap 136\nthread\n")?;
-    let mut journal = String::new(alloc);
+    input: &mut String,
+    journal: &mut String,
+) -> Result<(), Fail> {
     for (k, n, open, at) in [
         (0u32, 511u32, "0 1", 0u32),
         (1, 512, "1 2", 512),
@@ -224,10 +250,33 @@ fn of_every_size(
     }
     input.push_str(format!(in alloc; "{kind} b5 0{seed}\n")?.as_str())?;
     journal.push_str(format!(in alloc; "0 {kind} b5 0{seed} -> !exhausted\n")?.as_str())?;
+    Ok(())
+}
+
+/// Appends the reads, and their lines.
+fn add_reads(
+    alloc: Global,
+    reads: &[(&str, &str); 4],
+    input: &mut String,
+    journal: &mut String,
+) -> Result<(), Fail> {
     for (line, answer) in reads {
         input.push_str(format!(in alloc; "{line}\n")?.as_str())?;
         journal.push_str(format!(in alloc; "0 {line} -> {answer}\n")?.as_str())?;
     }
+    Ok(())
+}
+
+/// A script of one thread that makes objects of every size of a kind, and reads the last of them; and its journal.
+fn of_every_size(
+    alloc: Global,
+    kind: (&str, &str, &str),
+    reads: &[(&str, &str); 4],
+) -> Result<(String, String), Fail> {
+    let mut input = String::from_str(alloc, "lispheap 1\nheap 136\nthread\n")?;
+    let mut journal = String::new(alloc);
+    add_sizes(alloc, kind, &mut input, &mut journal)?;
+    add_reads(alloc, reads, &mut input, &mut journal)?;
     input.push_str("end\n")?;
     journal.push_str("0 end\ndone 16\n")?;
     Ok((input, journal))

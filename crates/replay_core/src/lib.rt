@@ -7,8 +7,6 @@ mod machine;
 mod rounds;
 mod runs;
 mod tables;
-#[cfg(test)]
-mod tests;
 
 pub use heap_terms::{ReplayLine, WordLine};
 pub use machine::{Machine, Stepped};

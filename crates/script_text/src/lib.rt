@@ -12,8 +12,6 @@ mod printing;
 mod raw_words;
 mod reader;
 mod schedules;
-#[cfg(test)]
-mod tests;
 mod turns;
 mod weaknesses;
 mod words;

@@ -10,8 +10,6 @@ mod gate;
 mod naming;
 mod running;
 mod sections;
-#[cfg(test)]
-mod tests;
 mod workers;
 
 pub use gate::{Gate, GatePlace, OpenGate};

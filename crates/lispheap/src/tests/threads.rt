@@ -6,9 +6,8 @@ ghost use Rattle.heap_terms.specs.Valid.{IsValid};
 ghost use Rattle.heap_turns.specs.Parcels.{AreReady};
 ghost use Rattle.heap_turns.specs.Turns.{MayGo, NoneInhibits};
 
-use super::{FIRST, FIRST_JOURNAL};
+use super::{FIRST, FIRST_JOURNAL, WHOLE, sinks_of, source_of, spoken_words};
 use crate::on_threads::lispheap;
-use heap_io::{MemorySink, MemorySource};
 use heap_terms::{Event, Memory, Program};
 use heap_turns::turn;
 use lisp_heap::{Parcel, World, put_away_all};
@@ -33,13 +32,9 @@ fn assert_runs<R: Threads + Wait + Sync, G: Gate>(
     outputs: &[&str],
     said: &str,
 ) -> Result<(), Fail> {
-    let mut spoken = Vec::new(alloc);
-    for word in words {
-        spoken.push(String::from_str(alloc, word)?)?;
-    }
-    let mut source = MemorySource::new(Vec::from_slice(alloc, input)?, 1_000_000, Vec::new(alloc));
-    let mut out = MemorySink::new(alloc, 1_000_000, 1_000_000, Vec::new(alloc))?;
-    let mut err = MemorySink::new(alloc, 1000, 1000, Vec::new(alloc))?;
+    let spoken = spoken_words(alloc, words)?;
+    let mut source = source_of(alloc, input, WHOLE)?;
+    let (mut out, mut err) = sinks_of(alloc, WHOLE)?;
     let got = lispheap(rt, alloc, &spoken, &mut source, &mut out, &mut err, gate);
     assert_eq!(abort; got, status, "{said}");
     assert!(abort;
@@ -289,18 +284,32 @@ fn comes_again(alloc: Global, program: Program, history: &[Event]) -> Result<boo
     Ok(went? && all_ended(&world) && world.history() == history)
 }
 
+/// The program of the eight threads.
+fn eight_threads(rt: &impl Abort, alloc: Global) -> Program
+    ensures { IsValid result }
+{
+    match parse(alloc, EIGHT_THREADS.as_bytes()) {
+        Ok(program) => program,
+        Err(_) => panic!(rt; "the script is refused"),
+    }
+}
+
+/// Runs the eight threads, and compares their history with what their turns give again.
+fn assert_comes_again<R: Threads + Wait + Sync>(
+    abort: &impl Abort,
+    rt: &R,
+    alloc: Global,
+) -> Result<(), Fail> {
+    let world = run_threads(rt, alloc, eight_threads(abort, alloc), &OpenGate)?;
+    let again = eight_threads(abort, alloc);
+    assert!(abort; comes_again(alloc, again, world.history())?);
+    Ok(())
+}
+
 #[test]
 fn each_of_many_runs_is_a_complete_history(rt: HostRuntime) -> Result<(), Fail> {
-    let alloc = rt.alloc();
     for _ in 0..200u32 {
-        let Ok(program) = parse(alloc, EIGHT_THREADS.as_bytes()) else {
-            panic!(rt; "the script is refused")
-        };
-        let Ok(again) = parse(alloc, EIGHT_THREADS.as_bytes()) else {
-            panic!(rt; "the script is refused")
-        };
-        let world = run_threads(&rt, alloc, program, &OpenGate)?;
-        assert!(rt; comes_again(alloc, again, world.history())?);
+        assert_comes_again(&rt, &rt, rt.alloc())?;
     }
     Ok(())
 }
