@@ -42,4 +42,3 @@ pub use collecting::CollectFault;
 pub use heap_terms::Next;
 pub use parcels::{Parcel, put_away_all};
 pub use world::World;
-

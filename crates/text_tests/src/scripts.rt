@@ -1,6 +1,6 @@
 //! Scripts that print and parse back, and bytes that are none, with their line and reason.
 
-use heap_terms::{Cell, Command, LimitKind};
+use heap_terms::{Cell, Command, LimitKind, Why};
 use script_text::{ScriptFault, parse, print};
 use std::alloc::{AllocError, Global};
 use std::test::*;
